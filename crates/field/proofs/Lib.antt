@@ -1,0 +1,4 @@
+-- What callers and later requests cite of the field.
+pub mod Laws
+pub mod ExtLaws
+mod Words

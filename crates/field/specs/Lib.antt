@@ -1,0 +1,4 @@
+-- What the contracts of the field cite.
+pub mod Base
+pub mod Ext
+pub mod Wide

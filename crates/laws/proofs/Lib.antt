@@ -1,0 +1,3 @@
+-- Lemmas that several crates cite.
+pub mod Cases
+pub mod Parts

@@ -1,0 +1,1 @@
+// Definitions and lemmas that several crates cite. There is no code here.
