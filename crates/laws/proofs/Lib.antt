@@ -1,3 +1,4 @@
 -- Lemmas that several crates cite.
 pub mod Cases
 pub mod Parts
+pub mod Tabulate
