@@ -1,4 +1,5 @@
--- What the contracts of the field cite.
+-- What the contracts of the field cite, and the marked sums.
 pub mod Base
 pub mod Ext
+pub mod Sums
 pub mod Wide

@@ -6,7 +6,6 @@ module _ {A : Type 0} (_~_ : A → A → Type 0) (O I : A) (_⊕_ _⊗_ : A → 
   infix 20 _~_
   infixl 40 _⊕_
   infixl 50 _⊗_
-
   -- the laws of a commutative ring
   pub record Ring : Type 0 where
     pub same : (a : A) → a ~ a
@@ -32,7 +31,6 @@ module _ {A B : Type 0} (_~_ : B → B → Type 0) (f : A → B)
   infixl 50 _⊗_
   infixl 40 _⊞_
   infixl 50 _⊠_
-
   -- f respects sums, differences, products and negation
   pub record Respects : Type 0 where
     pub sum : (a b : A) → f (a ⊕ b) ~ f a ⊞ f b
