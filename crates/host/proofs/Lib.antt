@@ -1,0 +1,2 @@
+-- Lemmas of the calls.
+pub mod FieldCallLaws
