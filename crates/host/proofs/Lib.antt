@@ -1,2 +1,3 @@
 -- Lemmas of the calls.
 pub mod FieldCallLaws
+pub mod Single

@@ -1,5 +1,6 @@
 -- Lemmas that several crates cite.
+pub mod Blocks
 pub mod Cases
+pub mod Elementwise
 pub mod Parts
 pub mod Tabulate
-pub mod Elementwise

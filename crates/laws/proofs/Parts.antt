@@ -1,12 +1,13 @@
--- Words at a place of a list.
+-- Words at a place of a list: read, and stored in a row by `sets`.
 -- Assumes nothing.
 use mathlib.Core.Path.{_≡_, refl, sym, ap, _∙_}
-use mathlib.Core.List.{List, [], _∷_}
-use Prim.Native.Nat.{ℕ, suc, _+_, _<_, _≤_}
-use native.Mathlib.Numerals.{add-one}
+use mathlib.Core.List.{List, [], _∷_, _++_, append-assoc}
+use Prim.Native.Nat.{ℕ, suc, _+_, _-_, _<_, _≤_}
 use native.Mathlib.Omega.{arith}
 use lib.ListN.{length, getD, set, take, drop}
-use lib.Seq.{drop-cons, sets}
+use lib.Seq.{drop-cons, sets, sets-eq, length-take-le, take-at, drop-at, drop-set-add, drop-set-lt, take-set-le}
+
+-- ---- three words, as an extension value has
 
 -- the three words from a place on
 pub three-words : (l : List ℕ) (at : ℕ) → at + 3 ≤ length l → getD l at 0 ∷ getD l (at + 1) 0 ∷ getD l (at + 2) 0 ∷ [] ≡ take 3 (drop at l)
@@ -21,3 +22,28 @@ three-sets l at x y z =
     let a : at + 1 ≡ suc at = omega arith in
     let b : at + 2 ≡ suc (suc at) = omega arith in
     rw (a, b)
+
+-- ---- words ws stored from a place on
+
+-- they stand there
+pub sets-here : (l : List ℕ) (at : ℕ) (ws : List ℕ) → at + length ws ≤ length l → take (length ws) (drop at (sets l at ws)) ≡ ws
+sets-here l at ws h =
+    ap (λ (x : List ℕ). take (length ws) (drop at x)) (sets-eq ws l at h ∙ append-assoc (take at l) ws (drop (at + length ws) l))
+    ∙ ap (take (length ws)) (drop-at (take at l) (ws ++ drop (at + length ws) l) at (length-take-le at l (omega arith)))
+    ∙ take-at ws (drop (at + length ws) l) (length ws) refl
+
+before-one : (l : List ℕ) (i a m k : ℕ) → k + m ≤ i → take m (drop k (set l i a)) ≡ take m (drop k l)
+before-one l i a m k h =
+    let e : i ≡ k + (i - k) = omega arith in
+    let g : m ≤ i - k = omega arith in
+    rw (e, drop-set-add k l (i - k) a) (take-set-le m (drop k l) (i - k) a g)
+
+-- words before them stay
+pub sets-before : (ws l : List ℕ) (i m k : ℕ) → k + m ≤ i → take m (drop k (sets l i ws)) ≡ take m (drop k l)
+sets-before [] l i m k h = refl
+sets-before (a ∷ ws) l i m k h = sets-before ws (set l i a) (suc i) m k (omega arith) ∙ before-one l i a m k h
+
+-- and so do words after them
+pub sets-after : (ws l : List ℕ) (i k : ℕ) → i + length ws ≤ k → drop k (sets l i ws) ≡ drop k l
+sets-after [] l i k h = refl
+sets-after (a ∷ ws) l i k h = sets-after ws (set l i a) (suc i) k (omega arith) ∙ drop-set-lt k l i a (omega arith)
