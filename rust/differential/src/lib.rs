@@ -1,0 +1,18 @@
+//! What the comparisons in tests/ share: the inputs, the published operations on plain words, the same operations by
+//! plain arithmetic, and the comparison itself.
+//!
+//! The host promises words below p; the published Rust leaves any word with the right remainder. So a published word
+//! is reduced here before it is compared, and the host's is compared as it is.
+
+#![forbid(unsafe_code)]
+
+pub mod inputs;
+pub mod plain;
+pub mod published;
+mod tally;
+
+pub use math::field::goldilocks::GOLDILOCKS_PRIME as P;
+pub use tally::Tally;
+
+/// An extension value: three words.
+pub type Limbs = [u64; 3];

@@ -1,0 +1,52 @@
+//! A safe face of the project's static library.
+//!
+//! A field value is a 64-bit word that stands for its remainder by [`P`]. Every word is taken; every word that a call
+//! writes or returns as a value is below `P`. An extension value is three words in a row, over w with w³ = 2.
+//!
+//! Memory is lent as slices, so a length always belongs to its pointer, and what a call writes overlaps nothing that
+//! it reads. A call that is lent too little answers a [`Refusal`] and has changed nothing.
+
+mod calls;
+pub mod ext;
+pub mod field;
+
+/// The field's prime, 2^64 - 2^32 + 1.
+pub const P: u64 = 0xFFFF_FFFF_0000_0001;
+
+/// A call's answer other than "done". Whatever was lent is as it was.
+#[derive(Clone, Copy, Debug, PartialEq, Eq)]
+pub struct Refusal {
+    /// The reason's number. 1: a lent slice is shorter than the call needs.
+    pub number: u8,
+}
+
+/// Reads a call's answer, which is 0 for "done" and else the number of a refusal.
+#[inline]
+fn done(answer: u64) -> Result<(), Refusal> {
+    if answer == 0 {
+        return Ok(());
+    }
+    // No call has a larger number, so one would mean that the archive is not the one these declarations are for.
+    // Going on would be worse than stopping.
+    let number = u8::try_from(answer).expect("the static library answers numbers below 256");
+    Err(Refusal { number })
+}
+
+/// A call that changes one slice by another. Every value of this type here is a function of `calls`.
+type Changing = unsafe extern "C" fn(*mut u64, usize, *const u64, usize) -> u64;
+
+/// A call that takes one word through a slice. Every value of this type here is a function of `calls`.
+type Reading = unsafe extern "C" fn(u64, *const u64, usize) -> u64;
+
+#[inline]
+fn change(call: Changing, xs: &mut [u64], ys: &[u64]) -> Result<(), Refusal> {
+    // SAFETY: the library reads and writes inside the two lent slices only. Each pointer and length are of one slice,
+    // and Rust lets nobody else hold `xs` while it is lent here.
+    done(unsafe { call(xs.as_mut_ptr(), xs.len(), ys.as_ptr(), ys.len()) })
+}
+
+#[inline]
+fn read(call: Reading, x: u64, ys: &[u64]) -> u64 {
+    // SAFETY: the library reads inside the lent slice only and writes nothing. Pointer and length are of one slice.
+    unsafe { call(x, ys.as_ptr(), ys.len()) }
+}

@@ -1,0 +1,148 @@
+//! Shim for `field/element.rs`: an element is its field's value and nothing else, and every operation on it is the
+//! field's.
+
+use core::fmt::{self, Debug};
+use core::ops::{Add, Mul, Neg, Sub};
+
+use super::errors::FieldError;
+use super::traits::{IsField, IsSubFieldOf};
+
+#[repr(transparent)]
+pub struct FieldElement<F: IsField> {
+    value: F::BaseType,
+}
+
+impl<F: IsField> FieldElement<F> {
+    /// The element of a value, after the field has had its say about it.
+    #[inline(always)]
+    pub fn new(value: F::BaseType) -> Self {
+        Self::from_raw(F::from_base_type(value))
+    }
+
+    /// The element that holds exactly this value.
+    #[inline(always)]
+    pub fn from_raw(value: F::BaseType) -> Self {
+        Self { value }
+    }
+
+    #[inline(always)]
+    pub fn to_raw(self) -> F::BaseType {
+        self.value
+    }
+
+    #[inline(always)]
+    pub fn value(&self) -> &F::BaseType {
+        &self.value
+    }
+
+    #[inline(always)]
+    pub fn zero() -> Self {
+        Self::from_raw(F::zero())
+    }
+
+    #[inline(always)]
+    pub fn one() -> Self {
+        Self::from_raw(F::one())
+    }
+
+    #[inline(always)]
+    pub fn double(&self) -> Self {
+        Self::from_raw(F::double(&self.value))
+    }
+
+    #[inline(always)]
+    pub fn square(&self) -> Self {
+        Self::from_raw(F::square(&self.value))
+    }
+
+    pub fn inv(&self) -> Result<Self, FieldError> {
+        F::inv(&self.value).map(Self::from_raw)
+    }
+}
+
+impl<F: IsField> From<u64> for FieldElement<F> {
+    #[inline(always)]
+    fn from(value: u64) -> Self {
+        Self::from_raw(F::from_u64(value))
+    }
+}
+
+// Written after the published comment on `from_i64`: "-x becomes p - x". The original body is absent, so a comparison
+// with it would compare with this file; none is made.
+impl<F: IsField> From<i64> for FieldElement<F> {
+    fn from(value: i64) -> Self {
+        let size = Self::from(value.unsigned_abs());
+        if value < 0 { -size } else { size }
+    }
+}
+
+// By hand, since a derive would ask for `F: Copy` where the value's being so is what matters.
+impl<F: IsField> Clone for FieldElement<F> {
+    #[inline(always)]
+    fn clone(&self) -> Self {
+        Self::from_raw(self.value.clone())
+    }
+}
+
+impl<F: IsField> Copy for FieldElement<F> where F::BaseType: Copy {}
+
+impl<F: IsField> Debug for FieldElement<F> {
+    fn fmt(&self, f: &mut fmt::Formatter<'_>) -> fmt::Result {
+        Debug::fmt(&self.value, f)
+    }
+}
+
+// Equality is the field's: 0 and p are one element.
+impl<F: IsField> PartialEq for FieldElement<F> {
+    #[inline(always)]
+    fn eq(&self, other: &Self) -> bool {
+        F::eq(&self.value, &other.value)
+    }
+}
+
+impl<F: IsField> Eq for FieldElement<F> {}
+
+impl<F: IsSubFieldOf<L>, L: IsField> Add<FieldElement<L>> for FieldElement<F> {
+    type Output = FieldElement<L>;
+
+    #[inline(always)]
+    fn add(self, rhs: FieldElement<L>) -> FieldElement<L> {
+        FieldElement::from_raw(<F as IsSubFieldOf<L>>::add(&self.value, &rhs.value))
+    }
+}
+
+impl<F: IsSubFieldOf<L>, L: IsField> Sub<FieldElement<L>> for FieldElement<F> {
+    type Output = FieldElement<L>;
+
+    #[inline(always)]
+    fn sub(self, rhs: FieldElement<L>) -> FieldElement<L> {
+        FieldElement::from_raw(<F as IsSubFieldOf<L>>::sub(&self.value, &rhs.value))
+    }
+}
+
+impl<F: IsSubFieldOf<L>, L: IsField> Mul<FieldElement<L>> for FieldElement<F> {
+    type Output = FieldElement<L>;
+
+    #[inline(always)]
+    fn mul(self, rhs: FieldElement<L>) -> FieldElement<L> {
+        FieldElement::from_raw(<F as IsSubFieldOf<L>>::mul(&self.value, &rhs.value))
+    }
+}
+
+impl<F: IsField> Neg for FieldElement<F> {
+    type Output = FieldElement<F>;
+
+    #[inline(always)]
+    fn neg(self) -> FieldElement<F> {
+        -&self
+    }
+}
+
+impl<F: IsField> Neg for &FieldElement<F> {
+    type Output = FieldElement<F>;
+
+    #[inline(always)]
+    fn neg(self) -> FieldElement<F> {
+        FieldElement::from_raw(F::neg(&self.value))
+    }
+}
