@@ -1,2 +1,4 @@
-pub mod Lists
+-- What several crates define by.
 pub mod Algebra
+pub mod Folds
+pub mod Lists

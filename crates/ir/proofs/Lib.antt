@@ -1,0 +1,2 @@
+-- Laws of programs.
+pub mod ProgramLaws

@@ -1,0 +1,4 @@
+-- What the program's contracts cite.
+pub mod Program
+pub mod Refusals
+pub mod Words

@@ -1,0 +1,78 @@
+-- Node words, as document 01 has them: four words a node, with the OP_ numbers of device.rs for tags.
+-- Assumes nothing.
+use mathlib.Core.Bool.{Bool, true, false, cond, not}
+use mathlib.Core.List.{List}
+use Prim.Native.Nat.{ℕ, _+_, _*_, _/_, _%_}
+use lib.Dec.{eqb}
+use lib.ListN.{getD}
+use Rattle.ir.specs.declared.node.Packed.{Packed}
+use Rattle.ir.specs.declared.node.Var.{Var}
+
+-- a node's words
+pub record Node : Type 0 where
+  pub tag : ℕ
+  pub x : ℕ
+  pub y : ℕ
+  pub dim : ℕ
+
+-- node i of a list of words
+abbrev pub nodeAt : List ℕ → ℕ → Node
+nodeAt l i =
+    record { tag = getD l (4 * i) 0; x = getD l (4 * i + 1) 0; y = getD l (4 * i + 2) 0; dim = getD l (4 * i + 3) 0 }
+
+-- the tags
+abbrev pub constBase : ℕ
+constBase = 0
+
+abbrev pub constExt : ℕ
+constExt = 1
+
+abbrev pub var : ℕ
+var = 2
+
+abbrev pub rapChallenge : ℕ
+rapChallenge = 3
+
+abbrev pub alphaPow : ℕ
+alphaPow = 4
+
+abbrev pub tableOffset : ℕ
+tableOffset = 5
+
+abbrev pub add : ℕ
+add = 6
+
+abbrev pub sub : ℕ
+sub = 7
+
+abbrev pub mul : ℕ
+mul = 8
+
+abbrev pub neg : ℕ
+neg = 9
+
+abbrev pub embed : ℕ
+embed = 10
+
+-- a Var has its column in x, and in y the main mark at bit 16, the offset from bit 8 and the row from bit 0
+abbrev pub mainOf : ℕ → Bool
+mainOf y = not (eqb (y / 65536 % 2) 0)
+
+abbrev pub offsetOf : ℕ → ℕ
+offsetOf y = y / 256 % 256
+
+abbrev pub rowOf : ℕ → ℕ
+rowOf y = y % 256
+
+abbrev pub columnOf : ℕ → ℕ
+columnOf x = x % 65536
+
+abbrev pub bit : Bool → ℕ
+bit b = cond b 1 0
+
+abbrev pub packed : Var → Packed
+packed v = record { a = v .col; b = bit (v .main) * 65536 + v .offset * 256 + v .row }
+
+abbrev pub unpacked : Packed → Var
+unpacked w =
+    record { main = mainOf (w .b); offset = offsetOf (w .b); row = rowOf (w .b); col = columnOf (w .a) }

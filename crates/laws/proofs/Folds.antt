@@ -1,0 +1,59 @@
+-- Laws of the folds over the numbers below n.
+-- Assumes nothing.
+use mathlib.Core.Bool.{Bool, true, false, cond}
+use mathlib.Core.Logic.{⊎-elim}
+use mathlib.Core.Option.{Option, none, some}
+use mathlib.Core.Path.{_≡_, refl, sym, _∙_}
+use Prim.Native.Nat.{ℕ, zero, suc, _+_, _<_, _≤_}
+use native.Mathlib.Decide.{le-ind}
+use native.Mathlib.Nat.{eq-or-lt-of-le}
+use native.Mathlib.Numerals.{add-one}
+use native.Mathlib.Omega.{arith}
+use Rattle.laws.specs.Folds.{lowest, orElse}
+
+-- no place is some place
+pub none-some : {P : Type 0} {A : Type 0} {o : Option A} {x : A} → o ≡ none → o ≡ some x → P
+none-some p q = absurd (let z : _≡_ {A = ℕ} 0 1 = cc in omega arith)
+
+pub or-none-left : (a b : Option ℕ) → orElse a b ≡ none → a ≡ none
+or-none-left none b h = refl
+or-none-left (some i) b h = none-some h refl
+
+pub or-none-right : (a b : Option ℕ) → orElse a b ≡ none → b ≡ none
+or-none-right none b h = h
+or-none-right (some i) b h = none-some h refl
+
+not-here : (b : Bool) (n : ℕ) → cond b (some n) none ≡ none → b ≡ false
+not-here true n h = none-some h refl
+not-here false n h = refl
+
+module _ (t : ℕ → Bool) where
+  pub lowest-start : lowest t 0 ≡ none
+  unfolding lowest
+  lowest-start = refl
+
+  pub lowest-on : (i : ℕ) → lowest t i ≡ none → t i ≡ false → lowest t (i + 1) ≡ none
+  unfolding lowest
+  lowest-on i h e = rw (add-one, h, e)
+
+  pub lowest-at : (i : ℕ) → lowest t i ≡ none → t i ≡ true → lowest t (i + 1) ≡ some i
+  unfolding lowest
+  lowest-at i h e = rw (add-one, h, e)
+
+  -- a place that was found stays the lowest
+  pub lowest-stays : (k : ℕ) {i n : ℕ} → k ≤ n → lowest t k ≡ some i → lowest t n ≡ some i
+  unfolding lowest
+  lowest-stays k {i} {n} l h = le-ind (λ m. lowest t m ≡ some i) h (λ m q e. rw e) n l
+
+  -- nothing is found exactly where the test fails everywhere
+  pub lowest-none : (n : ℕ) → lowest t n ≡ none → (i : ℕ) → i < n → t i ≡ false
+  unfolding lowest
+  lowest-none zero h i l = absurd (omega arith)
+  lowest-none (suc n) h i l =
+      ⊎-elim (λ (e : i ≡ n). rw e (not-here (t n) n (or-none-right (lowest t n) (cond (t n) (some n) none) h))) (λ (m : i < n). lowest-none n (or-none-left (lowest t n) (cond (t n) (some n) none) h) i m)
+      (let m : i ≤ n = omega arith in eq-or-lt-of-le m)
+
+  pub none-lowest : (n : ℕ) → ((i : ℕ) → i < n → t i ≡ false) → lowest t n ≡ none
+  unfolding lowest
+  none-lowest zero h = refl
+  none-lowest (suc n) h = rw (none-lowest n (λ i l. h i (omega arith)), h n (omega arith))
