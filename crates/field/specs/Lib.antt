@@ -1,5 +1,6 @@
--- What the contracts of the field cite, and the marked sums.
+-- What the contracts of the field cite, the marked sums, and the tower.
 pub mod Base
 pub mod Ext
 pub mod Sums
+pub mod Tower
 pub mod Wide

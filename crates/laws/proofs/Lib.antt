@@ -3,6 +3,7 @@ pub mod Blocks
 pub mod Cases
 pub mod Elementwise
 pub mod Folds
+pub mod Maps
 pub mod Parts
 pub mod Tabulate
 pub mod Tests

@@ -2,3 +2,4 @@
 pub mod Algebra
 pub mod Folds
 pub mod Lists
+pub mod Maps
