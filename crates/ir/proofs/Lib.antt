@@ -1,3 +1,4 @@
 -- Laws of programs.
 pub mod ProgramLaws
+pub mod RefusalLaws
 pub mod WellFormedLaws

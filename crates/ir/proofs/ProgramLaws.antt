@@ -7,6 +7,8 @@ use lib.Dec.{ltb}
 use borrow.Author.Tests.{ltb-false}
 use Rattle.laws.proofs.Tests.{or-left, or-right}
 use Rattle.ir.specs.declared.program.Counts.{Counts}
+use Rattle.ir.specs.declared.frame.Shape.{Shape}
+use Rattle.ir.specs.Shape.{overShape}
 use Rattle.ir.specs.Program.{most, most32, numBase, tooManyNodes, tooManyRoots, shortTables}
 
 -- counts that 8 lets through
@@ -46,4 +48,44 @@ long c nodes bases exts roots h =
       bases-long = ltb-false _ _ (or-right n b h₂);
       exts-long = ltb-false _ _ (or-right (n || b) x h₃);
       roots-long = ltb-false _ _ (or-right (n || b || x) r h);
+    }
+
+-- shapes that 2 lets through
+pub record Within (s : Shape) : Type 0 where
+  pub steps : s .steps ≤ 256
+  pub main : s .main ≤ 65536
+  pub aux : s .aux ≤ 65536
+  pub challenges : s .challenges ≤ 65536
+  pub alphas : s .alphas ≤ 65536
+
+pub within : (s : Shape) → overShape s ≡ false → Within s
+unfolding overShape
+within s h =
+    let a = ltb 256 (s .steps) in
+    let b = ltb 65536 (s .main) in
+    let c = ltb 65536 (s .aux) in
+    let d = ltb 65536 (s .challenges) in
+    let e = ltb 65536 (s .alphas) in
+    let h₄ = or-left (a || b || c || d) e h in
+    let h₃ = or-left (a || b || c) d h₄ in
+    let h₂ = or-left (a || b) c h₃ in
+    record {
+      steps = ltb-false _ _ (or-left a b h₂);
+      main = ltb-false _ _ (or-right a b h₂);
+      aux = ltb-false _ _ (or-right (a || b) c h₃);
+      challenges = ltb-false _ _ (or-right (a || b || c) d h₄);
+      alphas = ltb-false _ _ (or-right (a || b || c || d) e h);
+    }
+
+-- counts that 9 lets through
+pub record FewRoots (c : Counts) : Type 0 where
+  pub leading : numBase c ≤ most32
+  pub roots : c .roots ≤ most32
+
+pub few-roots : (c : Counts) → tooManyRoots c ≡ false → FewRoots c
+unfolding tooManyRoots
+few-roots c h =
+    record {
+      leading = ltb-false _ _ (or-left (ltb most32 (numBase c)) (ltb most32 (c .roots)) h);
+      roots = ltb-false _ _ (or-right (ltb most32 (numBase c)) (ltb most32 (c .roots)) h);
     }

@@ -1,5 +1,6 @@
 -- What the program's contracts cite.
 pub mod Program
 pub mod Refusals
+pub mod Shape
 pub mod WellFormed
 pub mod Words

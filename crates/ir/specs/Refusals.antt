@@ -1,6 +1,6 @@
 -- What a call says: document 01's number, the place, and the values that it gives; and the order of refusals as a table.
 -- Assumes nothing.
-use mathlib.Core.Bool.{Bool, true, false, cond}
+use mathlib.Core.Bool.{Bool, true, false, cond, _||_}
 use mathlib.Core.List.{List, [], _∷_}
 use mathlib.Core.Option.{Option, none, some}
 use Prim.Native.Nat.{ℕ}
@@ -68,14 +68,26 @@ abbrev pub row : Bool → ℕ → Row
 row b n = record { holds = b; number = n; place = 0 }
 
 -- a row that holds where a place was found
+abbrev pub found : Option ℕ → Bool
+found none = false
+found (some i) = true
+
+abbrev pub foundAt : Option ℕ → ℕ
+foundAt none = 0
+foundAt (some i) = i
+
 abbrev pub rowAt : Option ℕ → ℕ → Row
-rowAt none n = record { holds = false; number = n; place = 0 }
-rowAt (some i) n = record { holds = true; number = n; place = i }
+rowAt o n = record { holds = found o; number = n; place = foundAt o }
 
 -- the first row that holds, else what is done
 abbrev pub first : List Row → Said → Said
 first [] s = s
 first (r ∷ rs) s = cond (r .holds) (refuses (r .number) (r .place)) (first rs s)
+
+-- whether any row holds: then every lent word but a borrowed room stays as it was
+abbrev pub anyHolds : List Row → Bool
+anyHolds [] = false
+anyHolds (r ∷ rs) = r .holds || anyHolds rs
 
 -- the numbers of a call's rows stand in a list in that order
 abbrev pub inOrder : List Row → List ℕ → Bool

@@ -1,0 +1,2 @@
+// The evaluators, after interp.rs.
+pub mod frame;

@@ -1,0 +1,60 @@
+-- A call's rows: what is known where it is done, and where it is refused.
+-- Assumes nothing.
+use mathlib.Core.Bool.{Bool, true, false, cond, _&&_, _||_}
+use mathlib.Core.List.{List, [], _∷_}
+use mathlib.Core.Option.{Option, none, some}
+use mathlib.Core.Path.{_≡_, refl}
+use Prim.Native.Nat.{ℕ}
+use native.Mathlib.Omega.{arith}
+use lib.Dec.{ltb}
+use borrow.Author.Tests.{ltb-true}
+use Rattle.laws.proofs.Cases.{by-test}
+use Rattle.laws.proofs.Tests.{clash, and-left, and-right}
+use Rattle.ir.specs.declared.refusal.Refusal.{Refusal}
+use Rattle.ir.specs.declared.refusal.Refusal.the-variants.{ShortMemory, OverLimit, ForeignHandle, NodesFull, ConstantsFull, NoConstraint, IllFormed, TooManyNodes, TooManyRoots, ShortOutput, IllegalBlob, ExtensionRoot, LeafOutside, ShortEvals, BadFraming}
+use Rattle.ir.specs.Refusals.{gives, saidOf, Row, found, first, anyHolds}
+
+-- a refusal's number is not 0
+pub refusal-number : (r : Refusal) → saidOf r .number ≡ 0 → ⊥
+refusal-number ShortMemory e = omega arith
+refusal-number OverLimit e = omega arith
+refusal-number ForeignHandle e = omega arith
+refusal-number NodesFull e = omega arith
+refusal-number ConstantsFull e = omega arith
+refusal-number NoConstraint e = omega arith
+refusal-number (IllFormed at) e = omega arith
+refusal-number TooManyNodes e = omega arith
+refusal-number TooManyRoots e = omega arith
+refusal-number ShortOutput e = omega arith
+refusal-number (IllegalBlob at) e = omega arith
+refusal-number (ExtensionRoot at) e = omega arith
+refusal-number (LeafOutside at) e = omega arith
+refusal-number ShortEvals e = omega arith
+refusal-number BadFraming e = omega arith
+
+-- every row's number is a refusal's
+abbrev numbered : List Row → Bool
+numbered [] = true
+numbered (r ∷ rs) = ltb 0 (r .number) && numbered rs
+
+module _ (vs : List ℕ) where
+  -- done: no row holds
+  pub done-quiet : (rows : List Row) → numbered rows ≡ true → first rows (gives vs) .number ≡ 0 → anyHolds rows ≡ false
+  done-quiet [] n e = refl
+  done-quiet (r ∷ rs) n e =
+      by-test (r .holds) (anyHolds (r ∷ rs) ≡ false)
+      (λ h. let q = ltb-true 0 (r .number) (and-left (ltb 0 (r .number)) (numbered rs) n) in let z : r .number ≡ 0 = rw h at e in absurd (omega arith))
+      λ h. rw h (done-quiet rs (and-right (ltb 0 (r .number)) (numbered rs) n) (rw h at e))
+
+  -- refused: some row does
+  pub refused-loud : (rows : List Row) → (first rows (gives vs) .number ≡ 0 → ⊥) → anyHolds rows ≡ true
+  refused-loud [] n = absurd (n refl)
+  refused-loud (r ∷ rs) n =
+      by-test (r .holds) (anyHolds (r ∷ rs) ≡ true)
+      (λ h. rw h)
+      λ h. rw h (refused-loud rs (λ e. n (rw h e)))
+
+-- a row that does not hold found no place
+pub not-found : (o : Option ℕ) → found o ≡ false → o ≡ none
+not-found none h = refl
+not-found (some i) h = clash refl h
