@@ -2,15 +2,17 @@
 -- Assumes nothing.
 use mathlib.Core.Bool.{Bool, true, false, cond, not, _&&_}
 use mathlib.Core.List.{List, []}
-use Prim.Native.Nat.{ℕ, _+_, _*_, _%_}
+use mathlib.Core.Path.{_≡_}
+use Prim.Native.Nat.{ℕ, _+_, _*_, _%_, _<_, _≤_}
 use lib.Dec.{eqb, leb, ltb}
-use lib.ListN.{getD}
+use lib.ListN.{length, getD}
 use Rattle.laws.specs.Lists.{block}
 use Rattle.field.specs.Base.{p}
 use Rattle.field.specs.Tower.{remainders}
-use Rattle.ir.specs.Words.{Node, var, rapChallenge, alphaPow, tableOffset, mainOf, offsetOf}
+use Rattle.ir.specs.Words.{Node, constBase, constExt, var, rapChallenge, alphaPow, tableOffset, mainOf, offsetOf}
 use Rattle.ir.specs.declared.frame.Shape.{Shape}
 use Rattle.interp.specs.declared.frame.Limits.{Limits}
+use Rattle.interp.specs.declared.frame.Strides.{Strides}
 use Rattle.interp.specs.Values.{Value, base, ext, Leaves}
 
 -- a base value, and an extension value, of a lent table
@@ -30,32 +32,54 @@ pub record Lent : Type 0 where
   pub alphas : List ℕ
   pub offset : List ℕ
 
+abbrev pub lent : (bases exts main aux challenges alphas offset : List ℕ) → Lent
+lent bases exts main aux challenges alphas offset =
+    record { bases = bases; exts = exts; main = main; aux = aux; challenges = challenges; alphas = alphas; offset = offset }
+
 -- cells go by step, then column: `stride` cells a step. Main cells are extension values where they are wide
 abbrev pub mainCell : Bool → ℕ → List ℕ → ℕ → ℕ → Value ℕ (List ℕ)
 mainCell wide stride main step col = cond wide (ext (triple main (step * stride + col))) (base (word main (step * stride + col)))
 
-abbrev pub leaves : Bool → ℕ → ℕ → Lent → Leaves ℕ (List ℕ)
-leaves wide stride auxStride l =
+abbrev pub leaves : Strides → Lent → Leaves ℕ (List ℕ)
+leaves s l =
     record {
       base-const = word (l .bases);
       ext-const = triple (l .exts);
-      main = mainCell wide stride (l .main);
-      aux = λ step col. triple (l .aux) (step * auxStride + col);
+      main = mainCell (s .wide) (s .main) (l .main);
+      aux = λ step col. triple (l .aux) (step * s .aux + col);
       challenge = triple (l .challenges);
       alpha = triple (l .alphas);
       offset = remainders 3 (l .offset);
     }
 
--- the plain evaluator's leaves; the verifier's, whose main cells are extension values; and those of one row, whose
--- width counts for nothing in its addresses, since the offset of a main cell is ignored
-abbrev pub proverLeaves : Shape → Lent → Leaves ℕ (List ℕ)
-proverLeaves s = leaves false (s .main) (s .aux)
+-- the plain evaluator's frame; the verifier's, whose main cells are extension values; and one row, where the offset of a
+-- main cell is ignored: every step is the same row
+abbrev pub proverStrides : Shape → Strides
+proverStrides s = record { wide = false; main = s .main; aux = s .aux }
 
-abbrev pub verifierLeaves : Shape → Lent → Leaves ℕ (List ℕ)
-verifierLeaves s = leaves true (s .main) (s .aux)
+abbrev pub verifierStrides : Shape → Strides
+verifierStrides s = record { wide = true; main = s .main; aux = s .aux }
 
-abbrev pub rowLeaves : Lent → Leaves ℕ (List ℕ)
-rowLeaves = leaves false 0 0
+abbrev pub rowStrides : Strides
+rowStrides = record { wide = false; main = 0; aux = 0 }
+
+-- ---- what a leaf asks of the lent memory
+
+-- cell `at` of the main trace
+pub record MainIn (wide : Bool) (at size : ℕ) : Type 0 where
+  pub ext-cell : wide ≡ true → 3 * at + 3 ≤ size
+  pub base-cell : wide ≡ false → at < size
+
+pub record CellIn (s : Strides) (x y main aux : ℕ) : Type 0 where
+  pub main-cell : mainOf y ≡ true → MainIn (s .wide) (offsetOf y * s .main + x) main
+  pub aux-cell : mainOf y ≡ false → 3 * (offsetOf y * s .aux + x) + 3 ≤ aux
+
+pub record LeafIn (s : Strides) (tag x y : ℕ) (l : Lent) : Type 0 where
+  pub base-const : tag ≡ constBase → x < length (l .bases)
+  pub ext-const : tag ≡ constExt → 3 * x + 3 ≤ length (l .exts)
+  pub cell : tag ≡ var → CellIn s x y (length (l .main)) (length (l .aux))
+  pub challenge : tag ≡ rapChallenge → 3 * x + 3 ≤ length (l .challenges)
+  pub alpha : tag ≡ alphaPow → 3 * x + 3 ≤ length (l .alphas)
 
 -- ---- 13
 

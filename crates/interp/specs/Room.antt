@@ -6,7 +6,7 @@ use Prim.Native.Nat.{ℕ, _*_, _<_}
 use lib.ListN.{length, getD, drop}
 use Rattle.laws.specs.Lists.{block}
 use Rattle.field.specs.Base.{p}
-use Rattle.field.specs.Ext.{Near}
+use Rattle.field.specs.Ext.{Near, Limbs}
 use Rattle.field.specs.Tower.{goldilocks}
 use Rattle.interp.specs.Values.{Value, classOf, toExt}
 
@@ -14,6 +14,11 @@ use Rattle.interp.specs.Values.{Value, classOf, toExt}
 pub record Stands (v : Value ℕ (List ℕ)) (class : ℕ) (limbs : List ℕ) : Type 0 where
   pub class-is : class ≡ classOf v
   pub limbs-near : Near 3 limbs (toExt goldilocks v)
+
+-- the same of a result, as the field promises it
+pub record ValueIs (v : Value ℕ (List ℕ)) (class : ℕ) (limbs : List ℕ) : Type 0 where
+  pub class-is : class ≡ classOf v
+  pub limbs-are : Limbs 3 (toExt goldilocks v) limbs
 
 -- words that are below p
 pub record Low (l : List ℕ) : Type 0 where

@@ -10,3 +10,10 @@ pub struct Limits {
     pub alphas: usize,
     pub offsets: usize,
 }
+
+// How the traces are addressed: cells a step in either, and whether main cells are extension values.
+pub struct Strides {
+    pub wide: bool,
+    pub main: usize,
+    pub aux: usize,
+}

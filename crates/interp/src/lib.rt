@@ -1,2 +1,3 @@
 // The evaluators, after interp.rs.
 pub mod frame;
+pub mod value;

@@ -1,0 +1,2 @@
+-- Laws of the evaluators.
+pub mod ValueLaws
