@@ -1,2 +1,3 @@
 -- Laws of the evaluators.
+pub mod OperationLaws
 pub mod ValueLaws

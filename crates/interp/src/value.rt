@@ -11,6 +11,7 @@ ghost use Rattle.interp.specs.Values.{leafValue, operationValue, base, e
 ghost use Rattle.ir.specs.Words.{mainOf, offsetOf};
 ghost use Rattle.interp.specs.Frame.{word, triple, mainCell, lent, leaves, MainIn, CellIn, LeafIn};
 ghost use Rattle.interp.specs.Room.{ValueIs};
+ghost use Rattle.interp.specs.Operations.{baseOp, extOp, Operates};
 use super::frame::Strides;
 use field::extensions_goldilocks::Ext;
 use field::goldilocks::Fp;
@@ -113,5 +114,84 @@ pub fn leaf(
         OP_RAP_CHALLENGE => ext_leaf(challenges, x as usize),
         OP_ALPHA_POW => ext_leaf(alphas, x as usize),
         _ => offset_leaf(offset),
+    }
+}
+
+fn base_operation(tag: u32, a: u64, b: u64) -> u64
+    ensures { λ r. ⌜ Is (baseOp tag a b) r ⌝ }
+{
+    match tag {
+        OP_ADD => Fp::add(a, b),
+        OP_SUB => Fp::sub(a, b),
+        _ => Fp::mul(a, b),
+    }
+}
+
+fn ext_operation(tag: u32, a: Ext, b: Ext) -> Ext
+    ensures { λ r. ⌜ Limbs 3 (extOp tag (a .limbs) (b .limbs)) (r .limbs) ⌝ }
+{
+    match tag {
+        OP_ADD => a.add(b),
+        OP_SUB => a.sub(b),
+        _ => a.mul(b),
+    }
+}
+
+// Add, Sub or Mul: base where both operands are.
+fn binary(tag: u32, x: usize, y: usize, room: &[u64]) -> Value
+    requires { ⌜ (6 ≤ tag) × (tag < 9) × (4 * x + 4 ≤ length (now room)) × (4 * y + 4 ≤ length (now room)) ⌝ }
+    ensures { λ r. ⌜ Operates (now (room .entry)) tag x y (r .class) (r .limbs .limbs) ⌝ }
+{
+    let at = 4 * x;
+    let to = 4 * y;
+    if room[at] == BASE {
+        if room[to] == BASE {
+            let r = base_operation(tag, room[at + 1], room[to + 1]);
+            return Value {
+                class: BASE,
+                limbs: Ext { limbs: [r, 0, 0] },
+            };
+        }
+    }
+    Value {
+        class: EXT,
+        limbs: ext_operation(tag, Ext::load(room, at + 1), Ext::load(room, to + 1)),
+    }
+}
+
+// Neg keeps its operand's class, Embed is extension.
+fn unary(tag: u32, x: usize, y: usize, room: &[u64]) -> Value
+    requires { ⌜ (9 ≤ tag) × (tag ≤ 10) × (4 * x + 4 ≤ length (now room)) ⌝ }
+    ensures { λ r. ⌜ Operates (now (room .entry)) tag x y (r .class) (r .limbs .limbs) ⌝ }
+{
+    let at = 4 * x;
+    if tag != OP_NEG {
+        return Value {
+            class: EXT,
+            limbs: Ext::load(room, at + 1).reduce(),
+        };
+    }
+    if room[at] == BASE {
+        return Value {
+            class: BASE,
+            limbs: Ext {
+                limbs: [Fp::neg(room[at + 1]), 0, 0],
+            },
+        };
+    }
+    Value {
+        class: EXT,
+        limbs: Ext::load(room, at + 1).neg(),
+    }
+}
+
+pub fn operation(tag: u32, x: usize, y: usize, room: &[u64]) -> Value
+    requires { ⌜ (6 ≤ tag) × (tag ≤ 10) × (4 * x + 4 ≤ length (now room)) × (tag < 9 → 4 * y + 4 ≤ length (now room)) ⌝ }
+    ensures { λ r. ⌜ Operates (now (room .entry)) tag x y (r .class) (r .limbs .limbs) ⌝ }
+{
+    if tag < OP_NEG {
+        binary(tag, x, y, room)
+    } else {
+        unary(tag, x, y, room)
     }
 }

@@ -1,0 +1,30 @@
+-- The three binary operations on words, by tag, as the field promises them; and what an operation on the room gives.
+-- Assumes nothing.
+use mathlib.Core.Bool.{cond}
+use mathlib.Core.List.{List}
+use Prim.Native.Nat.{ℕ, _+_, _*_, _<_}
+use lib.Dec.{eqb}
+use lib.ListN.{getD, drop}
+use Rattle.laws.specs.Lists.{block}
+use Rattle.field.specs.Base.{minus}
+use Rattle.field.specs.Ext.{sums, minuses, product}
+use Rattle.field.specs.Tower.{goldilocks}
+use Rattle.ir.specs.Words.{add, sub, neg}
+use Rattle.interp.specs.Values.{Value, operationValue}
+use Rattle.interp.specs.Room.{Stands, ValueIs}
+
+unfoldable pub baseOp : ℕ → ℕ → ℕ → ℕ
+baseOp tag a b = cond (eqb tag add) (a + b) (cond (eqb tag sub) (a + minus b) (a * b))
+
+unfoldable pub extOp : ℕ → List ℕ → List ℕ → List ℕ
+extOp tag a b = cond (eqb tag add) (sums 3 a b) (cond (eqb tag sub) (sums 3 a (minuses 3 b)) (product a b))
+
+-- node j's words in a room stand for a value
+abbrev pub StandsIn : List ℕ → Value ℕ (List ℕ) → ℕ → Type 0
+StandsIn room v j = Stands v (getD (block 4 room j) 0 0) (drop 1 (block 4 room j))
+
+-- whatever values the operands' words stand for, the result stands for the operation's
+pub record Operates (room : List ℕ) (tag x y class : ℕ) (limbs : List ℕ) : Type 0 where
+  pub follows :
+      (env : ℕ → Value ℕ (List ℕ)) → StandsIn room (env x) x → (tag < neg → StandsIn room (env y) y)
+      → ValueIs (operationValue goldilocks env tag x y) class limbs
