@@ -1,3 +1,4 @@
 -- Laws of the evaluators.
 pub mod OperationLaws
+pub mod RunLaws
 pub mod ValueLaws

@@ -10,7 +10,7 @@ use native.Mathlib.Omega.{arith}
 use lib.Dec.{eqb, lit<}
 use lib.ListN.{length, getD, take, drop}
 use lib.Seq.{getD-take, getD-drop, drop-drop}
-use borrow.Author.Tests.{eqb-true, eqb-false}
+use borrow.Author.Tests.{eqb-true, eqb-false, lt-ltb, le-ltb}
 use Rattle.laws.specs.Lists.{block}
 use Rattle.laws.proofs.Cases.{by-test}
 use Rattle.field.specs.Base.{p, _≈_, Is, minus}
@@ -18,9 +18,11 @@ use Rattle.field.specs.Ext.{limb, sums, minuses, embedded, product, Near, Limbs
 use Rattle.field.specs.Tower.{goldilocks, remainders}
 use Rattle.field.proofs.Laws.{refl≈, sym≈, _then_, equal, reduced, add≈, mul≈, minus≈, stands}
 use Rattle.field.proofs.ExtLaws.{near-trans, limbs-stand, least-limbs, sums-near, minuses-near, product-near, remainders-near, near-sym, limb-embedded}
-use Rattle.interp.specs.Values.{Value, base, ext, classOf, toExt, binop, unop, operationValue}
+use Rattle.interp.specs.Values.{Value, base, ext, classOf, toExt, binop, unop, leafValue, operationValue, nodeValue}
+use Rattle.interp.specs.declared.frame.Strides.{Strides}
+use Rattle.interp.specs.Frame.{Lent, leaves}
 use Rattle.interp.specs.Room.{Stands, ValueIs}
-use Rattle.interp.specs.Operations.{baseOp, extOp, StandsIn, Operates}
+use Rattle.interp.specs.Operations.{baseOp, extOp, StandsIn, Operates, Computes}
 use Rattle.interp.proofs.ValueLaws.{base-is, ext-is}
 
 -- ---- a node's words in the room
@@ -150,3 +152,13 @@ module _ (room : List ℕ) (tag x y : ℕ) where
   unfolding operationValue
   negation-ext {a} {r} q n e i =
       record { follows = λ env s t. rw q (unop-ext (env x) s (λ u. n (sym (class-word room x) ∙ u)) (rw (limb-words room x, ← e) i)) }
+
+-- ---- one node
+
+pub leaf-computes : {s : Strides} {l : Lent} {room : List ℕ} {tag x y class : ℕ} {limbs : List ℕ} → tag < 6 → ValueIs (leafValue goldilocks (leaves s l) tag x y) class limbs → Computes s l room tag x y class limbs
+unfolding nodeValue
+leaf-computes h v = record { follows = λ env a b. rw (lt-ltb _ 6 h) v }
+
+pub operation-computes : {s : Strides} {l : Lent} {room : List ℕ} {tag x y class : ℕ} {limbs : List ℕ} → 6 ≤ tag → Operates room tag x y class limbs → Computes s l room tag x y class limbs
+unfolding nodeValue
+operation-computes h v = record { follows = λ env a b. rw (le-ltb _ 6 h) (v .follows env (a h) (b h)) }

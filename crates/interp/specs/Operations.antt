@@ -2,15 +2,17 @@
 -- Assumes nothing.
 use mathlib.Core.Bool.{cond}
 use mathlib.Core.List.{List}
-use Prim.Native.Nat.{ℕ, _+_, _*_, _<_}
+use Prim.Native.Nat.{ℕ, _+_, _*_, _<_, _≤_}
 use lib.Dec.{eqb}
-use lib.ListN.{getD, drop}
+use lib.ListN.{length, getD, drop}
 use Rattle.laws.specs.Lists.{block}
 use Rattle.field.specs.Base.{minus}
 use Rattle.field.specs.Ext.{sums, minuses, product}
 use Rattle.field.specs.Tower.{goldilocks}
-use Rattle.ir.specs.Words.{add, sub, neg}
-use Rattle.interp.specs.Values.{Value, operationValue}
+use Rattle.ir.specs.Words.{nodeAt, add, sub, neg, embed}
+use Rattle.interp.specs.declared.frame.Strides.{Strides}
+use Rattle.interp.specs.Frame.{Lent, leaves, LeafIn}
+use Rattle.interp.specs.Values.{Value, operationValue, nodeValue}
 use Rattle.interp.specs.Room.{Stands, ValueIs}
 
 unfoldable pub baseOp : ℕ → ℕ → ℕ → ℕ
@@ -28,3 +30,22 @@ pub record Operates (room : List ℕ) (tag x y class : ℕ) (limbs : List ℕ) :
   pub follows :
       (env : ℕ → Value ℕ (List ℕ)) → StandsIn room (env x) x → (tag < neg → StandsIn room (env y) y)
       → ValueIs (operationValue goldilocks env tag x y) class limbs
+
+-- ---- what the evaluation of a node asks, and gives
+
+pub record NodeReady (s : Strides) (l : Lent) (i tag x y : ℕ) : Type 0 where
+  pub known : tag ≤ embed
+  pub leaf-in : tag < add → LeafIn s tag x y l
+  pub first-operand : add ≤ tag → x < i
+  pub second-operand : add ≤ tag → tag < neg → y < i
+
+pub record Computes (s : Strides) (l : Lent) (room : List ℕ) (tag x y class : ℕ) (limbs : List ℕ) : Type 0 where
+  pub follows :
+      (env : ℕ → Value ℕ (List ℕ)) → (add ≤ tag → StandsIn room (env x) x) → (add ≤ tag → tag < neg → StandsIn room (env y) y)
+      → ValueIs (nodeValue goldilocks (leaves s l) env tag x y) class limbs
+
+-- what the evaluation of n nodes asks
+pub record Ready (s : Strides) (nodes : List ℕ) (n : ℕ) (l : Lent) (room : ℕ) : Type 0 where
+  pub nodes-long : 4 * n ≤ length nodes
+  pub room-long : 4 * n ≤ room
+  pub node : (i : ℕ) → i < n → NodeReady s l i (nodeAt nodes i .tag) (nodeAt nodes i .x) (nodeAt nodes i .y)

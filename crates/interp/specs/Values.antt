@@ -7,7 +7,7 @@ use Prim.Native.Nat.{ℕ, zero, suc}
 use lib.Dec.{eqb, ltb}
 use Rattle.laws.specs.Maps.{upd}
 use Rattle.field.specs.Tower.{Tower}
-use Rattle.ir.specs.Words.{Node, nodeAt, constBase, constExt, var, rapChallenge, alphaPow, add, sub, mul, neg, mainOf, offsetOf}
+use Rattle.ir.specs.Words.{nodeAt, constBase, constExt, var, rapChallenge, alphaPow, add, sub, mul, neg, mainOf, offsetOf}
 
 -- a value: of the base or of the extension
 pub data Value (B X : Type 0) : Type 0 where
@@ -64,11 +64,12 @@ module _ {B X : Type 0} (K : Tower B X) where
       (cond (eqb tag neg) (unop (K .neg₀) (K .neg₁) (env x))
       (ext (toExt (env x))))))
 
-  unfoldable pub nodeValue : Leaves B X → (ℕ → Value B X) → Node → Value B X
-  nodeValue u env w =
-      cond (ltb (w .tag) add) (leafValue u (w .tag) (w .x) (w .y)) (operationValue env (w .tag) (w .x) (w .y))
+  unfoldable pub nodeValue : Leaves B X → (ℕ → Value B X) → ℕ → ℕ → ℕ → Value B X
+  nodeValue u env tag x y = cond (ltb tag add) (leafValue u tag x y) (operationValue env tag x y)
 
   -- the values of the first k nodes, and nothing said of the others
   unfoldable pub values : Leaves B X → List ℕ → ℕ → ℕ → Value B X
   values u nodes zero = λ j. base (K .zero)
-  values u nodes (suc k) = upd (values u nodes k) k (nodeValue u (values u nodes k) (nodeAt nodes k))
+  values u nodes (suc k) =
+      let w = nodeAt nodes k in
+      upd (values u nodes k) k (nodeValue u (values u nodes k) (w .tag) (w .x) (w .y))

@@ -1,3 +1,4 @@
 // The evaluators, after interp.rs.
 pub mod frame;
+pub mod run;
 pub mod value;

@@ -3,6 +3,7 @@
 use mathlib.Core.Path.{_≡_, refl, sym, ap, _∙_}
 use mathlib.Core.List.{List, [], _∷_, _++_, append-assoc}
 use Prim.Native.Nat.{ℕ, suc, _+_, _-_, _<_, _≤_}
+use native.Mathlib.Numerals.{add-one}
 use native.Mathlib.Omega.{arith}
 use lib.ListN.{length, getD, set, take, drop}
 use lib.Seq.{drop-cons, sets, sets-eq, length-take-le, take-at, drop-at, drop-set-add, drop-set-lt, take-set-le}
@@ -47,3 +48,7 @@ sets-before (a ∷ ws) l i m k h = sets-before ws (set l i a) (suc i) m k (omega
 pub sets-after : (ws l : List ℕ) (i k : ℕ) → i + length ws ≤ k → drop k (sets l i ws) ≡ drop k l
 sets-after [] l i k h = refl
 sets-after (a ∷ ws) l i k h = sets-after ws (set l i a) (suc i) k (omega arith) ∙ drop-set-lt k l i a (omega arith)
+
+-- one word more in front
+pub sets-more : (l : List ℕ) (i a : ℕ) (ws : List ℕ) → sets (set l i a) (i + 1) ws ≡ sets l i (a ∷ ws)
+sets-more l i a ws = ap (λ (n : ℕ). sets (set l i a) n ws) (add-one i)
