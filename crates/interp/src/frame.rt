@@ -17,3 +17,16 @@ pub struct Strides {
     pub main: usize,
     pub aux: usize,
 }
+
+// The words lent for each table, and for the room.
+pub struct Lengths {
+    pub nodes: usize,
+    pub bases: usize,
+    pub exts: usize,
+    pub roots: usize,
+    pub main: usize,
+    pub aux: usize,
+    pub challenges: usize,
+    pub alphas: usize,
+    pub room: usize,
+}

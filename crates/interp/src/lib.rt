@@ -1,4 +1,5 @@
 // The evaluators, after interp.rs.
+pub mod evals;
 pub mod frame;
 pub mod run;
 pub mod value;

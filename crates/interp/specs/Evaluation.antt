@@ -1,0 +1,89 @@
+-- The three evaluators: their refusals in document 01's order, and what they leave.
+-- Assumes nothing.
+use mathlib.Core.Bool.{Bool, true, false, cond, not, _&&_, _||_}
+use mathlib.Core.List.{List, [], _∷_, _++_}
+use mathlib.Core.Option.{Option}
+use mathlib.Core.Path.{_≡_}
+use Prim.Native.Nat.{ℕ, _*_, min}
+use lib.Dec.{eqb, leb, ltb}
+use lib.ListN.{getD}
+use Rattle.laws.specs.Folds.{lowest}
+use Rattle.ir.specs.declared.program.Counts.{Counts}
+use Rattle.ir.specs.declared.frame.Shape.{Shape}
+use Rattle.ir.specs.declared.refusal.Outcome.{Outcome}
+use Rattle.ir.specs.Words.{nodeAt}
+use Rattle.ir.specs.Program.{numBase, tooManyNodes, tooManyRoots, shortTables, illFormed}
+use Rattle.ir.specs.Shape.{overShape}
+use Rattle.ir.specs.Refusals.{Said, Row, row, rowAt, first, anyHolds, gives, saidOfOutcome}
+use Rattle.interp.specs.declared.frame.Limits.{Limits}
+use Rattle.interp.specs.declared.frame.Lengths.{Lengths}
+use Rattle.interp.specs.Values.{Value}
+use Rattle.interp.specs.Frame.{outside}
+use Rattle.interp.specs.Evals.{baseEvals, extEvals}
+use Rattle.interp.specs.Room.{RoomHolds}
+
+-- ---- rows that the evaluators share
+
+-- 1: a table, a trace of cells of one or three words, a uniform table or the room is too short
+unfoldable pub shortMemory : Counts → Shape → ℕ → Lengths → Bool
+shortMemory c s limbs l =
+    shortTables c (l .nodes) (l .bases) (l .exts) (l .roots)
+    || ltb (l .main) (limbs * (s .steps * s .main))
+    || ltb (l .aux) (3 * (s .steps * s .aux))
+    || ltb (l .challenges) (3 * s .challenges)
+    || ltb (l .alphas) (3 * s .alphas)
+    || ltb (l .room) (4 * c .nodes)
+
+abbrev pub memoryRows : Counts → Shape → ℕ → Lengths → List Row
+memoryRows c s limbs l =
+    row (tooManyNodes c) 8 ∷ row (tooManyRoots c) 9 ∷ row (overShape s) 2 ∷ row (shortMemory c s limbs l) 1 ∷ []
+
+abbrev pub formRows : Counts → Limits → List ℕ → List ℕ → List Row
+formRows c m nodes roots =
+    rowAt (illFormed c nodes roots) 7 ∷ rowAt (lowest (λ i. outside m (nodeAt nodes i)) (c .nodes)) 13 ∷ []
+
+-- the dim of constraint c's root
+abbrev pub rootDim : List ℕ → List ℕ → ℕ → ℕ
+rootDim nodes roots c = nodeAt nodes (getD roots c 0) .dim
+
+-- ---- the plain evaluator
+
+-- 14: base_evals has the smaller of num_base and the root count; ext_evals three words a root, if any is at or past num_base
+unfoldable pub shortEvals : Counts → ℕ → ℕ → Bool
+shortEvals c base ext = ltb base (min (numBase c) (c .roots)) || (ltb (numBase c) (c .roots) && ltb ext (3 * c .roots))
+
+-- 12: the lowest root below num_base that is extension
+unfoldable pub extRoot : Counts → List ℕ → List ℕ → Option ℕ
+extRoot c nodes roots = lowest (λ r. ltb r (numBase c) && not (eqb (rootDim nodes roots r) 0)) (c .roots)
+
+abbrev pub proverRows : Counts → Shape → Lengths → ℕ → ℕ → Limits → List ℕ → List ℕ → List Row
+proverRows c s l base ext m nodes roots =
+    memoryRows c s 1 l ++ row (shortEvals c base ext) 14 ∷ [] ++ formRows c m nodes roots ++ rowAt (extRoot c nodes roots) 12 ∷ []
+
+-- ---- the verifier's
+
+abbrev pub verifierRows : Counts → Shape → Lengths → ℕ → Limits → List ℕ → List ℕ → List Row
+verifierRows c s l ext m nodes roots =
+    memoryRows c s 3 l ++ row (ltb ext (3 * c .roots)) 14 ∷ [] ++ formRows c m nodes roots
+
+-- ---- one row, one constraint
+
+abbrev pub rowShape : ℕ → Shape
+rowShape width = record { steps = 1; main = width; aux = 0; challenges = 0; alphas = 0 }
+
+-- 6: no such constraint; 12: its root is extension, and the place is its number
+abbrev pub rowRows : Counts → ℕ → ℕ → Lengths → Limits → List ℕ → List ℕ → List Row
+rowRows c width asked l m nodes roots =
+    memoryRows c (rowShape width) 1 l
+    ++ row (leb (c .roots) asked) 6 ∷ []
+    ++ formRows c m nodes roots
+    ++ record { holds = not (eqb (rootDim nodes roots asked) 0); number = 12; place = asked } ∷ []
+
+-- ---- what a call leaves: on a refusal every word as it was
+
+pub record Evaluates (rows : List Row) (env : ℕ → Value ℕ (List ℕ)) (n leading count : ℕ) (roots : List ℕ) (r : Outcome) (base base′ ext ext′ room room′ : List ℕ) : Type 0 where
+  pub said : saidOfOutcome r ≡ first rows (gives [])
+  pub base-evals : base′ ≡ cond (anyHolds rows) base (baseEvals env roots leading count base)
+  pub ext-evals : ext′ ≡ cond (anyHolds rows) ext (extEvals env roots leading count ext)
+  pub room-kept : anyHolds rows ≡ true → room′ ≡ room
+  pub room-holds : anyHolds rows ≡ false → RoomHolds env n room room′
