@@ -1,5 +1,6 @@
 -- Laws of the evaluators.
 pub mod EvalLaws
 pub mod OperationLaws
+pub mod RefuseLaws
 pub mod RunLaws
 pub mod ValueLaws

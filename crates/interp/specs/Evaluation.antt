@@ -4,9 +4,9 @@ use mathlib.Core.Bool.{Bool, true, false, cond, not, _&&_, _||_}
 use mathlib.Core.List.{List, [], _∷_, _++_}
 use mathlib.Core.Option.{Option}
 use mathlib.Core.Path.{_≡_}
-use Prim.Native.Nat.{ℕ, _*_, min}
+use Prim.Native.Nat.{ℕ, _*_, _<_, _≤_, min}
 use lib.Dec.{eqb, leb, ltb}
-use lib.ListN.{getD}
+use lib.ListN.{length, getD}
 use Rattle.laws.specs.Folds.{lowest}
 use Rattle.ir.specs.declared.program.Counts.{Counts}
 use Rattle.ir.specs.declared.frame.Shape.{Shape}
@@ -18,21 +18,24 @@ use Rattle.ir.specs.Refusals.{Said, Row, row, rowAt, first, anyHolds, gives, sa
 use Rattle.interp.specs.declared.frame.Limits.{Limits}
 use Rattle.interp.specs.declared.frame.Lengths.{Lengths}
 use Rattle.interp.specs.Values.{Value}
-use Rattle.interp.specs.Frame.{outside}
+use Rattle.interp.specs.Frame.{nodeOutside}
 use Rattle.interp.specs.Evals.{baseEvals, extEvals}
 use Rattle.interp.specs.Room.{RoomHolds}
 
 -- ---- rows that the evaluators share
 
--- 1: a table, a trace of cells of one or three words, a uniform table or the room is too short
-unfoldable pub shortMemory : Counts → Shape → ℕ → Lengths → Bool
-shortMemory c s limbs l =
-    shortTables c (l .nodes) (l .bases) (l .exts) (l .roots)
-    || ltb (l .main) (limbs * (s .steps * s .main))
+-- 1: the traces, whose main cells have one word or three, or a uniform table is too short
+unfoldable pub shortFrame : Shape → ℕ → Lengths → Bool
+shortFrame s limbs l =
+    ltb (l .main) (limbs * (s .steps * s .main))
     || ltb (l .aux) (3 * (s .steps * s .aux))
     || ltb (l .challenges) (3 * s .challenges)
     || ltb (l .alphas) (3 * s .alphas)
-    || ltb (l .room) (4 * c .nodes)
+
+-- 1: the program's tables, the frame, or the room of four words a node
+unfoldable pub shortMemory : Counts → Shape → ℕ → Lengths → Bool
+shortMemory c s limbs l =
+    shortTables c (l .nodes) (l .bases) (l .exts) (l .roots) || shortFrame s limbs l || ltb (l .room) (4 * c .nodes)
 
 abbrev pub memoryRows : Counts → Shape → ℕ → Lengths → List Row
 memoryRows c s limbs l =
@@ -40,7 +43,7 @@ memoryRows c s limbs l =
 
 abbrev pub formRows : Counts → Limits → List ℕ → List ℕ → List Row
 formRows c m nodes roots =
-    rowAt (illFormed c nodes roots) 7 ∷ rowAt (lowest (λ i. outside m (nodeAt nodes i)) (c .nodes)) 13 ∷ []
+    rowAt (illFormed c nodes roots) 7 ∷ rowAt (lowest (nodeOutside m nodes) (c .nodes)) 13 ∷ []
 
 -- the dim of constraint c's root
 abbrev pub rootDim : List ℕ → List ℕ → ℕ → ℕ
@@ -78,6 +81,14 @@ rowRows c width asked l m nodes roots =
     ++ row (leb (c .roots) asked) 6 ∷ []
     ++ formRows c m nodes roots
     ++ record { holds = not (eqb (rootDim nodes roots asked) 0); number = 12; place = asked } ∷ []
+
+-- ---- what an inner function asks
+
+-- every root names a node
+pub record RootsBelow (c : Counts) (nodes roots : List ℕ) : Type 0 where
+  pub nodes-long : 4 * c .nodes ≤ length nodes
+  pub roots-long : c .roots ≤ length roots
+  pub root-below : (r : ℕ) → r < c .roots → getD roots r 0 < c .nodes
 
 -- ---- what a call leaves: on a refusal every word as it was
 

@@ -1,6 +1,6 @@
 -- The frame: what each evaluator reads for a leaf, and when a leaf is outside.
 -- Assumes nothing.
-use mathlib.Core.Bool.{Bool, true, false, cond, not, _&&_}
+use mathlib.Core.Bool.{Bool, true, false, cond, _||_}
 use mathlib.Core.List.{List, []}
 use mathlib.Core.Path.{_≡_}
 use Prim.Native.Nat.{ℕ, _+_, _*_, _%_, _<_, _≤_}
@@ -9,7 +9,7 @@ use lib.ListN.{length, getD}
 use Rattle.laws.specs.Lists.{block}
 use Rattle.field.specs.Base.{p}
 use Rattle.field.specs.Tower.{remainders}
-use Rattle.ir.specs.Words.{Node, constBase, constExt, var, rapChallenge, alphaPow, tableOffset, mainOf, offsetOf}
+use Rattle.ir.specs.Words.{nodeAt, constBase, constExt, var, rapChallenge, alphaPow, tableOffset, mainOf, offsetOf}
 use Rattle.ir.specs.declared.frame.Shape.{Shape}
 use Rattle.interp.specs.declared.frame.Limits.{Limits}
 use Rattle.interp.specs.declared.frame.Strides.{Strides}
@@ -83,14 +83,21 @@ pub record LeafIn (s : Strides) (tag x y : ℕ) (l : Lent) : Type 0 where
 
 -- ---- 13
 
--- a leaf outside: a cell by its step and column, a uniform by its index, the table offset where there is none
-unfoldable pub outside : Limits → Node → Bool
-outside m w =
-    cond (eqb (w .tag) var) (not (ltb (offsetOf (w .y)) (m .steps) && ltb (w .x) (cond (mainOf (w .y)) (m .main) (m .aux))))
-    (cond (eqb (w .tag) rapChallenge) (leb (m .challenges) (w .x))
-    (cond (eqb (w .tag) alphaPow) (leb (m .alphas) (w .x))
-    (cond (eqb (w .tag) tableOffset) (eqb (m .offsets) 0)
+-- a cell outside, by its step and its column
+unfoldable pub cellOutside : Limits → ℕ → ℕ → Bool
+cellOutside m x y = leb (m .steps) (offsetOf y) || cond (mainOf y) (leb (m .main) x) (leb (m .aux) x)
+
+-- a leaf outside: a cell, a uniform by its index, the table offset where there is none
+unfoldable pub outside : Limits → ℕ → ℕ → ℕ → Bool
+outside m tag x y =
+    cond (eqb tag var) (cellOutside m x y)
+    (cond (eqb tag rapChallenge) (leb (m .challenges) x)
+    (cond (eqb tag alphaPow) (leb (m .alphas) x)
+    (cond (eqb tag tableOffset) (eqb (m .offsets) 0)
     false)))
+
+abbrev pub nodeOutside : Limits → List ℕ → ℕ → Bool
+nodeOutside m nodes i = let w = nodeAt nodes i in outside m (w .tag) (w .x) (w .y)
 
 -- a frame has its table offset; one row has main cells at any offset and nothing else
 abbrev pub frameLimits : Shape → Limits

@@ -1,5 +1,6 @@
 // The evaluators, after interp.rs.
 pub mod evals;
 pub mod frame;
+pub mod refuse;
 pub mod run;
 pub mod value;
