@@ -1,7 +1,7 @@
 -- A call's rows: what is known where it is done, and where it is refused.
 -- Assumes nothing.
 use mathlib.Core.Bool.{Bool, true, false, cond, _&&_, _||_}
-use mathlib.Core.List.{List, [], _∷_}
+use mathlib.Core.List.{List, [], _∷_, _++_}
 use mathlib.Core.Option.{Option, none, some}
 use mathlib.Core.Path.{_≡_, refl}
 use Prim.Native.Nat.{ℕ}
@@ -9,10 +9,10 @@ use native.Mathlib.Omega.{arith}
 use lib.Dec.{ltb}
 use borrow.Author.Tests.{ltb-true}
 use Rattle.laws.proofs.Cases.{by-test}
-use Rattle.laws.proofs.Tests.{clash, and-left, and-right}
+use Rattle.laws.proofs.Tests.{clash, and-left, and-right, or-left, or-right}
 use Rattle.ir.specs.declared.refusal.Refusal.{Refusal}
 use Rattle.ir.specs.declared.refusal.Refusal.the-variants.{ShortMemory, OverLimit, ForeignHandle, NodesFull, ConstantsFull, NoConstraint, IllFormed, TooManyNodes, TooManyRoots, ShortOutput, IllegalBlob, ExtensionRoot, LeafOutside, ShortEvals, BadFraming}
-use Rattle.ir.specs.Refusals.{gives, saidOf, Row, found, first, anyHolds}
+use Rattle.ir.specs.Refusals.{Said, gives, saidOf, Row, found, first, anyHolds}
 
 -- a refusal's number is not 0
 pub refusal-number : (r : Refusal) → saidOf r .number ≡ 0 → ⊥
@@ -33,7 +33,7 @@ refusal-number ShortEvals e = omega arith
 refusal-number BadFraming e = omega arith
 
 -- every row's number is a refusal's
-abbrev numbered : List Row → Bool
+abbrev pub numbered : List Row → Bool
 numbered [] = true
 numbered (r ∷ rs) = ltb 0 (r .number) && numbered rs
 
@@ -58,3 +58,14 @@ module _ (vs : List ℕ) where
 pub not-found : (o : Option ℕ) → found o ≡ false → o ≡ none
 not-found none h = refl
 not-found (some i) h = clash refl h
+
+-- a refusal among the first rows is the call's
+pub first-loud : (a b : List Row) (s t : Said) → anyHolds a ≡ true → first (a ++ b) s ≡ first a t
+first-loud [] b s t h = clash h refl
+first-loud (r ∷ rs) b s t h =
+    by-test (r .holds) (first ((r ∷ rs) ++ b) s ≡ first (r ∷ rs) t) (λ q. rw q) λ q. rw q (first-loud rs b s t (rw q at h))
+
+pub first-quiet : (a b : List Row) (s : Said) → anyHolds a ≡ false → first (a ++ b) s ≡ first b s
+first-quiet [] b s h = refl
+first-quiet (r ∷ rs) b s h =
+    let q = or-left (r .holds) (anyHolds rs) h in rw q (first-quiet rs b s (or-right (r .holds) (anyHolds rs) h))
