@@ -1,6 +1,7 @@
 -- Laws of the evaluators.
 pub mod EvalLaws
 pub mod OperationLaws
+pub mod OutcomeLaws
 pub mod ReadyLaws
 pub mod RefuseLaws
 pub mod RunLaws

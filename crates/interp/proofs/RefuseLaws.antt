@@ -7,9 +7,22 @@ use native.Mathlib.Nat.{mul-le-mul, le-of-lt, min-eq-left, min-eq-right}
 use lib.Dec.{ltb}
 use borrow.Author.Tests.{ltb-false, lt-ltb, le-ltb}
 use Rattle.laws.proofs.Tests.{or-left, or-right}
+use mathlib.Core.List.{List}
+use mathlib.Core.Option.{none}
+use Rattle.laws.specs.Folds.{lowest}
 use Rattle.ir.specs.declared.frame.Shape.{Shape}
+use Rattle.ir.specs.declared.program.Counts.{Counts}
+use Rattle.ir.specs.Program.{tooManyNodes, tooManyRoots, shortTables, illFormed}
+use Rattle.ir.specs.Shape.{overShape}
+use Rattle.ir.specs.Refusals.{anyHolds, found}
+use Rattle.ir.specs.WellFormed.{WellFormed}
+use Rattle.ir.proofs.ProgramLaws.{Long, long}
+use Rattle.ir.proofs.RefusalLaws.{not-found}
+use Rattle.ir.proofs.WellFormedLaws.{well-formed}
+use Rattle.interp.specs.declared.frame.Limits.{Limits}
+use Rattle.interp.specs.Frame.{nodeOutside}
 use Rattle.interp.specs.declared.frame.Lengths.{Lengths}
-use Rattle.interp.specs.Evaluation.{shortFrame}
+use Rattle.interp.specs.Evaluation.{shortFrame, shortMemory, memoryRows, formRows}
 
 -- as many cells as a frame within its limits can have
 pub cells-small : {steps width : ℕ} → steps ≤ 256 → width ≤ 65536 → steps * width ≤ 16777216
@@ -51,3 +64,48 @@ evals-leading a b r x h = rw (min-eq-right h, le-ltb a r h) (or-false (ltb b r))
     or-false : (t : Bool) → (t || false) ≡ t
     or-false true = refl
     or-false false = refl
+
+-- ---- rows that do not hold
+
+-- the counts, the shape and the memory that the first rows let through
+pub record MemoryOk (c : Counts) (s : Shape) (limbs : ℕ) (l : Lengths) : Type 0 where
+  pub counts-few : tooManyNodes c ≡ false
+  pub roots-few : tooManyRoots c ≡ false
+  pub shape-within : overShape s ≡ false
+  pub tables-long : Long c (l .nodes) (l .bases) (l .exts) (l .roots)
+  pub frame-long : LongFrame s limbs l
+  pub room-long : 4 * c .nodes ≤ l .room
+
+pub memory-ok : (c : Counts) (s : Shape) (limbs : ℕ) (l : Lengths) → anyHolds (memoryRows c s limbs l) ≡ false → MemoryOk c s limbs l
+unfolding shortMemory
+memory-ok c s limbs l h =
+    let h₁ = or-right (tooManyNodes c) (tooManyRoots c || (overShape s || (shortMemory c s limbs l || false))) h in
+    let h₂ = or-right (tooManyRoots c) (overShape s || (shortMemory c s limbs l || false)) h₁ in
+    let h₃ = or-right (overShape s) (shortMemory c s limbs l || false) h₂ in
+    let m = or-left (shortMemory c s limbs l) false h₃ in
+    let t = shortTables c (l .nodes) (l .bases) (l .exts) (l .roots) in
+    let f = shortFrame s limbs l in
+    let r = ltb (l .room) (4 * c .nodes) in
+    let m₁ = or-left (t || f) r m in
+    record {
+      counts-few = or-left (tooManyNodes c) (tooManyRoots c || (overShape s || (shortMemory c s limbs l || false))) h;
+      roots-few = or-left (tooManyRoots c) (overShape s || (shortMemory c s limbs l || false)) h₁;
+      shape-within = or-left (overShape s) (shortMemory c s limbs l || false) h₂;
+      tables-long = long c (l .nodes) (l .bases) (l .exts) (l .roots) (or-left t f m₁);
+      frame-long = long-frame s limbs l (or-right t f m₁);
+      room-long = ltb-false (l .room) (4 * c .nodes) (or-right (t || f) r m);
+    }
+
+-- the program and the frame that 7 and 13 let through
+pub record FormOk (c : Counts) (m : Limits) (nodes roots : List ℕ) : Type 0 where
+  pub formed : WellFormed c nodes roots
+  pub inside : lowest (nodeOutside m nodes) (c .nodes) ≡ none
+
+pub form-ok : (c : Counts) (m : Limits) (nodes roots : List ℕ) → anyHolds (formRows c m nodes roots) ≡ false → FormOk c m nodes roots
+form-ok c m nodes roots h =
+    let i = illFormed c nodes roots in
+    let o = lowest (nodeOutside m nodes) (c .nodes) in
+    record {
+      formed = well-formed c nodes roots (not-found i (or-left (found i) (found o || false) h));
+      inside = not-found o (or-left (found o) false (or-right (found i) (found o || false) h));
+    }

@@ -18,7 +18,7 @@ use Rattle.ir.specs.Refusals.{Said, Row, row, rowAt, first, anyHolds, gives, sa
 use Rattle.interp.specs.declared.frame.Limits.{Limits}
 use Rattle.interp.specs.declared.frame.Lengths.{Lengths}
 use Rattle.interp.specs.Values.{Value}
-use Rattle.interp.specs.Frame.{nodeOutside}
+use Rattle.interp.specs.Frame.{Lent, nodeOutside}
 use Rattle.interp.specs.Evals.{baseEvals, extEvals}
 use Rattle.interp.specs.Room.{RoomHolds}
 
@@ -59,15 +59,20 @@ shortEvals c base ext = ltb base (min (numBase c) (c .roots)) || (ltb (numBase c
 unfoldable pub extRoot : Counts → List ℕ → List ℕ → Option ℕ
 extRoot c nodes roots = lowest (λ r. ltb r (numBase c) && not (eqb (rootDim nodes roots r) 0)) (c .roots)
 
+abbrev pub proverRest : Counts → ℕ → ℕ → Limits → List ℕ → List ℕ → List Row
+proverRest c base ext m nodes roots =
+    row (shortEvals c base ext) 14 ∷ (formRows c m nodes roots ++ (rowAt (extRoot c nodes roots) 12 ∷ []))
+
 abbrev pub proverRows : Counts → Shape → Lengths → ℕ → ℕ → Limits → List ℕ → List ℕ → List Row
-proverRows c s l base ext m nodes roots =
-    memoryRows c s 1 l ++ row (shortEvals c base ext) 14 ∷ [] ++ formRows c m nodes roots ++ rowAt (extRoot c nodes roots) 12 ∷ []
+proverRows c s l base ext m nodes roots = memoryRows c s 1 l ++ proverRest c base ext m nodes roots
 
 -- ---- the verifier's
 
+abbrev pub verifierRest : Counts → ℕ → Limits → List ℕ → List ℕ → List Row
+verifierRest c ext m nodes roots = row (ltb ext (3 * c .roots)) 14 ∷ formRows c m nodes roots
+
 abbrev pub verifierRows : Counts → Shape → Lengths → ℕ → Limits → List ℕ → List ℕ → List Row
-verifierRows c s l ext m nodes roots =
-    memoryRows c s 3 l ++ row (ltb ext (3 * c .roots)) 14 ∷ [] ++ formRows c m nodes roots
+verifierRows c s l ext m nodes roots = memoryRows c s 3 l ++ verifierRest c ext m nodes roots
 
 -- ---- one row, one constraint
 
@@ -75,20 +80,43 @@ abbrev pub rowShape : ℕ → Shape
 rowShape width = record { steps = 1; main = width; aux = 0; challenges = 0; alphas = 0 }
 
 -- 6: no such constraint; 12: its root is extension, and the place is its number
+abbrev pub rowRest : Counts → ℕ → Limits → List ℕ → List ℕ → List Row
+rowRest c asked m nodes roots =
+    row (leb (c .roots) asked) 6
+    ∷ (formRows c m nodes roots ++ (record { holds = not (eqb (rootDim nodes roots asked) 0); number = 12; place = asked } ∷ []))
+
 abbrev pub rowRows : Counts → ℕ → ℕ → Lengths → Limits → List ℕ → List ℕ → List Row
-rowRows c width asked l m nodes roots =
-    memoryRows c (rowShape width) 1 l
-    ++ row (leb (c .roots) asked) 6 ∷ []
-    ++ formRows c m nodes roots
-    ++ record { holds = not (eqb (rootDim nodes roots asked) 0); number = 12; place = asked } ∷ []
+rowRows c width asked l m nodes roots = memoryRows c (rowShape width) 1 l ++ rowRest c asked m nodes roots
 
 -- ---- what an inner function asks
+
+-- counts and tables that 8, 9 and 1 let through
+pub record TablesOk (c : Counts) (nodes roots : ℕ) : Type 0 where
+  pub few-roots : tooManyRoots c ≡ false
+  pub nodes-long : 4 * c .nodes ≤ nodes
+  pub roots-long : c .roots ≤ roots
 
 -- every root names a node
 pub record RootsBelow (c : Counts) (nodes roots : List ℕ) : Type 0 where
   pub nodes-long : 4 * c .nodes ≤ length nodes
   pub roots-long : c .roots ≤ length roots
   pub root-below : (r : ℕ) → r < c .roots → getD roots r 0 < c .nodes
+
+-- ---- the words that were lent
+
+abbrev pub lengths : (nodes roots : List ℕ) → Lent → List ℕ → Lengths
+lengths nodes roots l room =
+    record {
+      nodes = length nodes;
+      bases = length (l .bases);
+      exts = length (l .exts);
+      roots = length roots;
+      main = length (l .main);
+      aux = length (l .aux);
+      challenges = length (l .challenges);
+      alphas = length (l .alphas);
+      room = length room;
+    }
 
 -- ---- what a call leaves: on a refusal every word as it was
 

@@ -1,6 +1,7 @@
 // The evaluators, after interp.rs.
 pub mod evals;
 pub mod frame;
+pub mod interp;
 pub mod refuse;
 pub mod run;
 pub mod value;

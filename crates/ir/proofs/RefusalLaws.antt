@@ -3,7 +3,7 @@
 use mathlib.Core.Bool.{Bool, true, false, cond, _&&_, _||_}
 use mathlib.Core.List.{List, [], _∷_, _++_}
 use mathlib.Core.Option.{Option, none, some}
-use mathlib.Core.Path.{_≡_, refl}
+use mathlib.Core.Path.{_≡_, refl, sym, ap, _∙_}
 use Prim.Native.Nat.{ℕ}
 use native.Mathlib.Omega.{arith}
 use lib.Dec.{ltb}
@@ -12,7 +12,9 @@ use Rattle.laws.proofs.Cases.{by-test}
 use Rattle.laws.proofs.Tests.{clash, and-left, and-right, or-left, or-right}
 use Rattle.ir.specs.declared.refusal.Refusal.{Refusal}
 use Rattle.ir.specs.declared.refusal.Refusal.the-variants.{ShortMemory, OverLimit, ForeignHandle, NodesFull, ConstantsFull, NoConstraint, IllFormed, TooManyNodes, TooManyRoots, ShortOutput, IllegalBlob, ExtensionRoot, LeafOutside, ShortEvals, BadFraming}
-use Rattle.ir.specs.Refusals.{Said, gives, saidOf, Row, found, first, anyHolds}
+use Rattle.ir.specs.declared.refusal.Outcome.{Outcome}
+use Rattle.ir.specs.declared.refusal.Outcome.the-variants.{Done, Refused}
+use Rattle.ir.specs.Refusals.{Said, gives, saidOf, saidOfOutcome, Row, found, first, anyHolds}
 
 -- a refusal's number is not 0
 pub refusal-number : (r : Refusal) → saidOf r .number ≡ 0 → ⊥
@@ -69,3 +71,20 @@ pub first-quiet : (a b : List Row) (s : Said) → anyHolds a ≡ false → first
 first-quiet [] b s h = refl
 first-quiet (r ∷ rs) b s h =
     let q = or-left (r .holds) (anyHolds rs) h in rw q (first-quiet rs b s (or-right (r .holds) (anyHolds rs) h))
+
+-- ---- an inner call's answer, in the call around it
+
+pub refused-rows : (a b : List Row) {o : Outcome} {why : Refusal} → o ≡ Refused why → saidOfOutcome o ≡ first a (gives []) → saidOf why ≡ first (a ++ b) (gives [])
+refused-rows a b {o} {why} e h =
+    let q : saidOf why ≡ first a (gives []) = rw e at h in
+    q ∙ sym (first-loud a b (gives []) (gives []) (refused-loud [] a (λ z. refusal-number why (ap (λ (s : Said). s .number) q ∙ z))))
+
+pub done-rows : (a : List Row) {o : Outcome} → numbered a ≡ true → o ≡ Done → saidOfOutcome o ≡ first a (gives []) → anyHolds a ≡ false
+done-rows a {o} n e h =
+    let q : gives [] ≡ first a (gives []) = rw e at h in
+    done-quiet [] a n (sym (ap (λ (s : Said). s .number) q))
+
+pub loud-rows : (a : List Row) {o : Outcome} {why : Refusal} → o ≡ Refused why → saidOfOutcome o ≡ first a (gives []) → anyHolds a ≡ true
+loud-rows a {o} {why} e h =
+    let q : saidOf why ≡ first a (gives []) = rw e at h in
+    refused-loud [] a (λ z. refusal-number why (ap (λ (s : Said). s .number) q ∙ z))
