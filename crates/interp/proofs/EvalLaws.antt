@@ -19,7 +19,8 @@ use Rattle.field.proofs.Laws.{least-exact}
 use Rattle.field.proofs.ExtLaws.{least-limbs-exact}
 use Rattle.interp.specs.Values.{Value, toExt}
 use Rattle.interp.specs.Evals.{baseWord, extWords, baseEvals, extEvals}
-use Rattle.interp.specs.Writes.{WritesRoot, WritesRoots}
+use Rattle.interp.specs.Room.{RoomHolds}
+use Rattle.interp.specs.Writes.{WritesRoot, WritesRoots, Completes}
 use Rattle.interp.specs.Operations.{StandsIn}
 use Rattle.interp.proofs.OperationLaws.{first-word, limb-words}
 
@@ -70,3 +71,9 @@ module _ (leading : ℕ) (roots room bases exts : List ℕ) where
         bases-long = r .bases-long ∙ w .bases-long;
         exts-long = r .exts-long ∙ w .exts-long;
       })
+
+-- the pass and the writing together
+pub completes : {env : ℕ → Value ℕ (List ℕ)} {n leading count : ℕ} {roots base base′ ext ext′ room room′ : List ℕ} → RoomHolds env n room room′ → WritesRoots count leading roots room′ base base′ ext ext′ → ((r : ℕ) → r < count → getD roots r 0 < n) → Completes env n leading count roots base base′ ext ext′ room room′
+completes {env} {n} {leading} {count} {roots} h w b =
+    let q = w .follows env (λ r l. h .node (getD roots r 0) (b r l) .stands) in
+    record { base-written = q .0; ext-written = q .1; room-holds = h }

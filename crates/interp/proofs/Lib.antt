@@ -1,4 +1,5 @@
 -- Laws of the evaluators.
+pub mod AnswerLaws
 pub mod EvalLaws
 pub mod OperationLaws
 pub mod OutcomeLaws

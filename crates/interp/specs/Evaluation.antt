@@ -8,6 +8,7 @@ use Prim.Native.Nat.{ℕ, _*_, _<_, _≤_, min}
 use lib.Dec.{eqb, leb, ltb}
 use lib.ListN.{length, getD}
 use Rattle.laws.specs.Folds.{lowest}
+use Rattle.field.specs.Tower.{goldilocks}
 use Rattle.ir.specs.declared.program.Counts.{Counts}
 use Rattle.ir.specs.declared.frame.Shape.{Shape}
 use Rattle.ir.specs.declared.refusal.Outcome.{Outcome}
@@ -17,8 +18,8 @@ use Rattle.ir.specs.Shape.{overShape}
 use Rattle.ir.specs.Refusals.{Said, Row, row, rowAt, first, anyHolds, gives, saidOfOutcome}
 use Rattle.interp.specs.declared.frame.Limits.{Limits}
 use Rattle.interp.specs.declared.frame.Lengths.{Lengths}
-use Rattle.interp.specs.Values.{Value}
-use Rattle.interp.specs.Frame.{Lent, nodeOutside}
+use Rattle.interp.specs.Values.{Value, values}
+use Rattle.interp.specs.Frame.{Lent, leaves, nodeOutside, proverStrides, frameLimits}
 use Rattle.interp.specs.Evals.{baseEvals, extEvals}
 use Rattle.interp.specs.Room.{RoomHolds}
 
@@ -126,3 +127,9 @@ pub record Evaluates (rows : List Row) (env : ℕ → Value ℕ (List ℕ)) (n l
   pub ext-evals : ext′ ≡ cond (anyHolds rows) ext (extEvals env roots leading count ext)
   pub room-kept : anyHolds rows ≡ true → room′ ≡ room
   pub room-holds : anyHolds rows ≡ false → RoomHolds env n room room′
+
+-- the plain evaluator
+abbrev pub ProverAnswer : Counts → Shape → (nodes roots : List ℕ) → Lent → Outcome → (base base′ ext ext′ room room′ : List ℕ) → Type 0
+ProverAnswer c s nodes roots l r base base′ ext ext′ room room′ =
+    Evaluates (proverRows c s (lengths nodes roots l room) (length base) (length ext) (frameLimits s) nodes roots)
+    (values goldilocks (leaves (proverStrides s) l) nodes (c .nodes)) (c .nodes) (numBase c) (c .roots) roots r base base′ ext ext′ room room′

@@ -9,6 +9,7 @@ use lib.ListN.{length, getD, set}
 use lib.Seq.{sets}
 use Rattle.interp.specs.Values.{Value}
 use Rattle.interp.specs.Evals.{baseWord, extWords, baseEvals, extEvals}
+use Rattle.interp.specs.Room.{RoomHolds}
 use Rattle.interp.specs.Operations.{StandsIn}
 
 pub record RootIn (c leading root room bases exts : ℕ) : Type 0 where
@@ -34,3 +35,10 @@ pub record WritesRoots (count leading : ℕ) (roots room bases bases′ exts ext
       → (bases′ ≡ baseEvals env roots leading count bases) × (exts′ ≡ extEvals env roots leading count exts)
   pub bases-long : length bases′ ≡ length bases
   pub exts-long : length exts′ ≡ length exts
+
+-- ---- a whole evaluation: every node's value in the room, and the roots' values written
+
+pub record Completes (env : ℕ → Value ℕ (List ℕ)) (n leading count : ℕ) (roots base base′ ext ext′ room room′ : List ℕ) : Type 0 where
+  pub base-written : base′ ≡ baseEvals env roots leading count base
+  pub ext-written : ext′ ≡ extEvals env roots leading count ext
+  pub room-holds : RoomHolds env n room room′

@@ -2,13 +2,15 @@
 // node may hold anything on entry, and holds every node's class and limbs after success.
 ghost use mathlib.Core.List.{[]};
 ghost use mathlib.Core.Path.{_≡_};
-ghost use Prim.Native.Nat.{_≤_};
-ghost use lib.ListN.{length};
+ghost use Prim.Native.Nat.{ℕ, _<_};
+ghost use lib.ListN.{length, getD};
 ghost use Rattle.field.specs.Tower.{goldilocks};
 ghost use Rattle.ir.specs.Refusals.{saidOfOutcome, first, gives};
 ghost use Rattle.interp.specs.Values.{values};
 ghost use Rattle.interp.specs.Frame.{lent, leaves, proverStrides, verifierStrides, rowStrides, frameLimits, rowLimits};
-ghost use Rattle.interp.specs.Evaluation.{TablesOk, proverRest, proverRows, lengths, Evaluates};
+ghost use Rattle.interp.specs.Operations.{Ready};
+ghost use Rattle.interp.specs.Writes.{RootsIn, Completes};
+ghost use Rattle.interp.specs.Evaluation.{TablesOk, proverRest, proverRows, ProverAnswer};
 use super::evals::write_roots;
 use super::frame::Lengths;
 use super::frame::Limits;
@@ -77,5 +79,111 @@ fn prover_refusal(
     match memory_refusal(c, s, 1, l) {
         Outcome::Refused(why) => Outcome::Refused(why),
         Outcome::Done => prover_rest(c, s, base, ext, nodes, roots),
+    }
+}
+
+// The pass over the nodes, then the roots' values.
+fn evaluate(
+    n: usize,
+    count: usize,
+    leading: usize,
+    t: Strides,
+    offset: Ext,
+    nodes: &[u32],
+    bases: &[u64],
+    exts: &[u64],
+    roots: &[u32],
+    main: &[u64],
+    aux: &[u64],
+    challenges: &[u64],
+    alphas: &[u64],
+    base: &mut [u64],
+    ext: &mut [u64],
+    room: &mut [u64],
+)
+    requires { ⌜ Ready t (now nodes) n (lent (now bases) (now exts) (now main) (now aux) (now challenges) (now alphas) (offset .limbs)) (length (now room)) × RootsIn count leading (now roots) (length (now room)) (length (now base)) (length (now ext)) × ((r : ℕ) → r < count → getD (now roots) r 0 < n) ⌝ }
+    ensures { λ _. ⌜ Completes (values goldilocks (leaves t (lent (now (bases .entry)) (now (exts .entry)) (now (main .entry)) (now (aux .entry)) (now (challenges .entry)) (now (alphas .entry)) (offset .limbs))) (now (nodes .entry)) n) n leading count (now (roots .entry)) (now (base .entry)) (now (base .exit)) (now (ext .entry)) (now (ext .exit)) (now (room .entry)) (now (room .exit)) ⌝ }
+{
+    run(
+        n,
+        t,
+        offset,
+        nodes,
+        bases,
+        exts,
+        main,
+        aux,
+        challenges,
+        alphas,
+        &mut room[..],
+    );
+    write_roots(
+        count,
+        leading,
+        roots,
+        &room[..],
+        &mut base[..],
+        &mut ext[..],
+    );
+}
+
+// The plain evaluator: base constraints into base_evals, the others into ext_evals.
+pub fn eval_program(
+    c: Counts,
+    s: Shape,
+    offset: Ext,
+    nodes: &[u32],
+    bases: &[u64],
+    exts: &[u64],
+    roots: &[u32],
+    main: &[u64],
+    aux: &[u64],
+    challenges: &[u64],
+    alphas: &[u64],
+    base: &mut [u64],
+    ext: &mut [u64],
+    room: &mut [u64],
+) -> Outcome
+    ensures { λ r. ⌜ ProverAnswer c s (now (nodes .entry)) (now (roots .entry)) (lent (now (bases .entry)) (now (exts .entry)) (now (main .entry)) (now (aux .entry)) (now (challenges .entry)) (now (alphas .entry)) (offset .limbs)) r (now (base .entry)) (now (base .exit)) (now (ext .entry)) (now (ext .exit)) (now (room .entry)) (now (room .exit)) ⌝ }
+{
+    let l = Lengths {
+        nodes: nodes.len(),
+        bases: bases.len(),
+        exts: exts.len(),
+        roots: roots.len(),
+        main: main.len(),
+        aux: aux.len(),
+        challenges: challenges.len(),
+        alphas: alphas.len(),
+        room: room.len(),
+    };
+    match prover_refusal(c, s, l, base.len(), ext.len(), nodes, roots) {
+        Outcome::Refused(why) => Outcome::Refused(why),
+        Outcome::Done => {
+            let t = Strides {
+                wide: false,
+                main: s.main,
+                aux: s.aux,
+            };
+            evaluate(
+                c.nodes,
+                c.roots,
+                c.num_base,
+                t,
+                offset,
+                nodes,
+                bases,
+                exts,
+                roots,
+                main,
+                aux,
+                challenges,
+                alphas,
+                &mut base[..],
+                &mut ext[..],
+                &mut room[..],
+            );
+            Outcome::Done
+        }
     }
 }

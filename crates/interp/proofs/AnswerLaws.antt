@@ -1,0 +1,120 @@
+-- From the refusals' answer and the evaluation to an evaluator's promise.
+-- Assumes nothing.
+use mathlib.Core.Bool.{Bool, true, false, cond, _&&_, _||_}
+use mathlib.Core.List.{List, [], _∷_, _++_}
+use mathlib.Core.Path.{_≡_, refl, sym, ap, _∙_}
+use Prim.Native.Nat.{ℕ, _*_, _<_, _≤_, min}
+use native.Mathlib.Nat.{min-eq-left, min-eq-right, le-of-lt}
+use native.Mathlib.Omega.{arith}
+use lib.Dec.{ltb}
+use lib.ListN.{length, getD}
+use borrow.Author.Tests.{ltb-false, lt-ltb, ltb-true}
+use Rattle.laws.proofs.Cases.{by-test}
+use Rattle.laws.proofs.Tests.{clash, or-left, or-right}
+use Rattle.ir.specs.declared.program.Counts.{Counts}
+use Rattle.ir.specs.declared.frame.Shape.{Shape}
+use Rattle.ir.specs.declared.refusal.Refusal.{Refusal}
+use Rattle.ir.specs.declared.refusal.Outcome.{Outcome}
+use Rattle.ir.specs.declared.refusal.Outcome.the-variants.{Done, Refused}
+use Rattle.ir.specs.Program.{numBase}
+use Rattle.ir.specs.Refusals.{Said, Row, row, rowAt, gives, saidOf, saidOfOutcome, first, anyHolds}
+use Rattle.ir.proofs.RefusalLaws.{numbered, done-rows, loud-rows}
+use Rattle.interp.specs.declared.frame.Limits.{Limits}
+use Rattle.interp.specs.declared.frame.Lengths.{Lengths}
+use Rattle.interp.specs.declared.frame.Strides.{Strides}
+use Rattle.interp.specs.Values.{Value}
+use Rattle.interp.specs.Frame.{Lent, proverStrides, frameLimits}
+use Rattle.interp.specs.Operations.{Ready}
+use Rattle.interp.specs.Writes.{RootIn, RootsIn, Completes}
+use Rattle.interp.specs.Evaluation.{memoryRows, formRows, shortEvals, extRoot, proverRest, proverRows, lengths, Evaluates}
+use Rattle.interp.proofs.ReadyLaws.{ready, prover-fits}
+use Rattle.interp.proofs.RefuseLaws.{MemoryOk, memory-ok, FormOk, form-ok}
+
+-- ---- the promise, refused and done
+
+module _ (rows : List Row) {env : ℕ → Value ℕ (List ℕ)} {n leading count : ℕ} {roots : List ℕ} {o : Outcome} (h : saidOfOutcome o ≡ first rows (gives [])) where
+  pub answer-refused : {why : Refusal} {base ext room : List ℕ} → o ≡ Refused why → Evaluates rows env n leading count roots (Refused why) base base ext ext room room
+  answer-refused e =
+      let l = loud-rows rows e h in
+      record { said = rw e at h; base-evals = rw l; ext-evals = rw l; room-kept = λ q. refl; room-holds = λ q. clash l q }
+
+  pub answer-done : {base base′ ext ext′ room room′ : List ℕ} → numbered rows ≡ true → o ≡ Done → Completes env n leading count roots base base′ ext ext′ room room′ → Evaluates rows env n leading count roots Done base base′ ext ext′ room room′
+  answer-done m e w =
+      let q = done-rows rows m e h in
+      record { said = rw e at h; base-evals = rw q (w .base-written); ext-evals = rw q (w .ext-written); room-kept = λ t. clash t q; room-holds = λ t. w .room-holds }
+
+-- ---- rows in two parts
+
+pub any-append : (a b : List Row) → anyHolds (a ++ b) ≡ (anyHolds a || anyHolds b)
+any-append [] b = refl
+any-append (r ∷ rs) b = ap (λ (t : Bool). r .holds || t) (any-append rs b) ∙ sym (or-assoc (r .holds) (anyHolds rs) (anyHolds b))
+  where
+    or-assoc : (x y z : Bool) → (x || y || z) ≡ (x || (y || z))
+    or-assoc true y z = refl
+    or-assoc false y z = refl
+
+pub first-part : (a b : List Row) → anyHolds (a ++ b) ≡ false → anyHolds a ≡ false
+first-part a b h = or-left (anyHolds a) (anyHolds b) (sym (any-append a b) ∙ h)
+
+pub second-part : (a b : List Row) → anyHolds (a ++ b) ≡ false → anyHolds b ≡ false
+second-part a b h = or-right (anyHolds a) (anyHolds b) (sym (any-append a b) ∙ h)
+
+-- ---- the plain evaluator
+
+pub record ProverOk (c : Counts) (s : Shape) (l : Lengths) (base ext : ℕ) (m : Limits) (nodes roots : List ℕ) : Type 0 where
+  pub memory : MemoryOk c s 1 l
+  pub evals : shortEvals c base ext ≡ false
+  pub form : FormOk c m nodes roots
+
+pub prover-ok : (c : Counts) (s : Shape) (l : Lengths) (base ext : ℕ) (m : Limits) (nodes roots : List ℕ) → anyHolds (proverRows c s l base ext m nodes roots) ≡ false → ProverOk c s l base ext m nodes roots
+prover-ok c s l base ext m nodes roots h =
+    let rest = proverRest c base ext m nodes roots in
+    let last = rowAt (extRoot c nodes roots) 12 ∷ [] in
+    let r = second-part (memoryRows c s 1 l) rest h in
+    let e = shortEvals c base ext in
+    let f = anyHolds (formRows c m nodes roots ++ last) in
+    record {
+      memory = memory-ok c s 1 l (first-part (memoryRows c s 1 l) rest h);
+      evals = or-left e f r;
+      form = form-ok c m nodes roots (first-part (formRows c m nodes roots) last (or-right e f r));
+    }
+
+-- what the roots ask of the room and of the eval buffers
+roots-in : (c : Counts) (room base ext : ℕ) (roots : List ℕ) → c .roots ≤ length roots → ((r : ℕ) → r < c .roots → getD roots r 0 < c .nodes) → 4 * c .nodes ≤ room → shortEvals c base ext ≡ false → RootsIn (c .roots) (numBase c) roots room base ext
+unfolding shortEvals
+roots-in c room base ext roots a b d h =
+    let need = min (numBase c) (c .roots) in
+    let left = ltb base need in
+    let right = ltb (numBase c) (c .roots) && ltb ext (3 * c .roots) in
+    let low : need ≤ base = ltb-false base need (or-left left right h) in
+    record {
+      roots-long = a;
+      root = λ r q.
+          let t = b r q in
+          record {
+            held = omega arith;
+            base-place = λ u. both-below (numBase c) (c .roots) base r u q low;
+            ext-place = λ u.
+                let g : ltb ext (3 * c .roots) ≡ false = rw (lt-ltb (numBase c) (c .roots) (omega arith)) at (or-right left right h) in
+                let z = ltb-false ext (3 * c .roots) g in omega arith;
+          };
+    }
+  where
+    both-below : (x y z r : ℕ) → r < x → r < y → min x y ≤ z → r < z
+    both-below x y z r u q l = omega arith
+
+-- what an evaluation asks
+abbrev pub Asked : Strides → Counts → ℕ → (nodes roots : List ℕ) → Lent → (base ext room : ℕ) → Type 0
+Asked t c leading nodes roots l base ext room =
+    Ready t nodes (c .nodes) l room × RootsIn (c .roots) leading roots room base ext × ((r : ℕ) → r < c .roots → getD roots r 0 < c .nodes)
+
+pub prover-asked : (c : Counts) (s : Shape) (nodes roots : List ℕ) (l : Lent) (base ext room : List ℕ) → ProverOk c s (lengths nodes roots l room) (length base) (length ext) (frameLimits s) nodes roots → Asked (proverStrides s) c (numBase c) nodes roots l (length base) (length ext) (length room)
+prover-asked c s nodes roots l base ext room k =
+    let m = k .memory in
+    let t = m .tables-long in
+    let f = m .frame-long in
+    let w = k .form .formed in (
+      ready (proverStrides s) (frameLimits s) c l (prover-fits s c l (t .bases-long) (t .exts-long) (f .aux-long) (f .challenges-long) (f .alphas-long) (f .main-long)) nodes roots (length room) w (k .form .inside) (t .nodes-long) (m .room-long),
+      roots-in c (length room) (length base) (length ext) roots (t .roots-long) (w .root) (m .room-long) (k .evals),
+      w .root,
+    )
