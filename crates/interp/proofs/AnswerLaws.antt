@@ -23,11 +23,11 @@ use Rattle.interp.specs.declared.frame.Limits.{Limits}
 use Rattle.interp.specs.declared.frame.Lengths.{Lengths}
 use Rattle.interp.specs.declared.frame.Strides.{Strides}
 use Rattle.interp.specs.Values.{Value}
-use Rattle.interp.specs.Frame.{Lent, proverStrides, frameLimits}
+use Rattle.interp.specs.Frame.{Lent, proverStrides, verifierStrides, frameLimits}
 use Rattle.interp.specs.Operations.{Ready}
 use Rattle.interp.specs.Writes.{RootIn, RootsIn, Completes}
-use Rattle.interp.specs.Evaluation.{memoryRows, formRows, shortEvals, extRoot, proverRest, proverRows, lengths, Evaluates}
-use Rattle.interp.proofs.ReadyLaws.{ready, prover-fits}
+use Rattle.interp.specs.Evaluation.{memoryRows, formRows, shortEvals, extRoot, proverRest, proverRows, verifierRest, verifierRows, lengths, Evaluates, VerifierEvaluates}
+use Rattle.interp.proofs.ReadyLaws.{ready, prover-fits, verifier-fits}
 use Rattle.interp.proofs.RefuseLaws.{MemoryOk, memory-ok, FormOk, form-ok}
 
 -- ---- the promise, refused and done
@@ -117,4 +117,35 @@ prover-asked c s nodes roots l base ext room k =
       ready (proverStrides s) (frameLimits s) c l (prover-fits s c l (t .bases-long) (t .exts-long) (f .aux-long) (f .challenges-long) (f .alphas-long) (f .main-long)) nodes roots (length room) w (k .form .inside) (t .nodes-long) (m .room-long),
       roots-in c (length room) (length base) (length ext) roots (t .roots-long) (w .root) (m .room-long) (k .evals),
       w .root,
+    )
+
+-- ---- the verifier's
+
+module _ (rows : List Row) {env : ℕ → Value ℕ (List ℕ)} {n count : ℕ} {roots : List ℕ} {o : Outcome} (h : saidOfOutcome o ≡ first rows (gives [])) where
+  pub verifier-refused : {why : Refusal} {ext room : List ℕ} → o ≡ Refused why → VerifierEvaluates rows env n count roots (Refused why) ext ext room room
+  verifier-refused e =
+      let l = loud-rows rows e h in
+      record { said = rw e at h; ext-evals = rw l; room-kept = λ q. refl; room-holds = λ q. clash l q }
+
+  pub verifier-done : {base base′ ext ext′ room room′ : List ℕ} → numbered rows ≡ true → o ≡ Done → Completes env n 0 count roots base base′ ext ext′ room room′ → VerifierEvaluates rows env n count roots Done ext ext′ room room′
+  verifier-done m e w =
+      let q = done-rows rows m e h in
+      record { said = rw e at h; ext-evals = rw q (w .ext-written); room-kept = λ t. clash t q; room-holds = λ t. w .room-holds }
+
+pub verifier-asked : (c : Counts) (s : Shape) (nodes roots : List ℕ) (l : Lent) (base : ℕ) (ext room : List ℕ) → anyHolds (verifierRows c s (lengths nodes roots l room) (length ext) (frameLimits s) nodes roots) ≡ false → Asked (verifierStrides s) c 0 nodes roots l base (length ext) (length room)
+verifier-asked c s nodes roots l base ext room h =
+    let k = lengths nodes roots l room in
+    let rest = verifierRest c (length ext) (frameLimits s) nodes roots in
+    let r = second-part (memoryRows c s 3 k) rest h in
+    let e = ltb (length ext) (3 * c .roots) in
+    let f = anyHolds (formRows c (frameLimits s) nodes roots) in
+    let m = memory-ok c s 3 k (first-part (memoryRows c s 3 k) rest h) in
+    let o = form-ok c (frameLimits s) nodes roots (or-right e f r) in
+    let z = ltb-false (length ext) (3 * c .roots) (or-left e f r) in
+    let t = m .tables-long in
+    let g = m .frame-long in
+    let d = m .room-long in (
+      ready (verifierStrides s) (frameLimits s) c l (verifier-fits s c l (t .bases-long) (t .exts-long) (g .aux-long) (g .challenges-long) (g .alphas-long) (g .main-long)) nodes roots (length room) (o .formed) (o .inside) (t .nodes-long) d,
+      record { roots-long = t .roots-long; root = λ i q. let b = o .formed .root i q in record { held = omega arith; base-place = λ u. absurd (omega arith); ext-place = λ u. omega arith } },
+      o .formed .root,
     )

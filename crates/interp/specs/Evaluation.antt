@@ -19,7 +19,7 @@ use Rattle.ir.specs.Refusals.{Said, Row, row, rowAt, first, anyHolds, gives, sa
 use Rattle.interp.specs.declared.frame.Limits.{Limits}
 use Rattle.interp.specs.declared.frame.Lengths.{Lengths}
 use Rattle.interp.specs.Values.{Value, values}
-use Rattle.interp.specs.Frame.{Lent, leaves, nodeOutside, proverStrides, frameLimits}
+use Rattle.interp.specs.Frame.{Lent, leaves, nodeOutside, proverStrides, verifierStrides, frameLimits}
 use Rattle.interp.specs.Evals.{baseEvals, extEvals}
 use Rattle.interp.specs.Room.{RoomHolds}
 
@@ -133,3 +133,15 @@ abbrev pub ProverAnswer : Counts → Shape → (nodes roots : List ℕ) → Lent
 ProverAnswer c s nodes roots l r base base′ ext ext′ room room′ =
     Evaluates (proverRows c s (lengths nodes roots l room) (length base) (length ext) (frameLimits s) nodes roots)
     (values goldilocks (leaves (proverStrides s) l) nodes (c .nodes)) (c .nodes) (numBase c) (c .roots) roots r base base′ ext ext′ room room′
+
+-- the verifier's: every root goes to ext_evals
+pub record VerifierEvaluates (rows : List Row) (env : ℕ → Value ℕ (List ℕ)) (n count : ℕ) (roots : List ℕ) (r : Outcome) (ext ext′ room room′ : List ℕ) : Type 0 where
+  pub said : saidOfOutcome r ≡ first rows (gives [])
+  pub ext-evals : ext′ ≡ cond (anyHolds rows) ext (extEvals env roots 0 count ext)
+  pub room-kept : anyHolds rows ≡ true → room′ ≡ room
+  pub room-holds : anyHolds rows ≡ false → RoomHolds env n room room′
+
+abbrev pub VerifierAnswer : Counts → Shape → (nodes roots : List ℕ) → Lent → Outcome → (ext ext′ room room′ : List ℕ) → Type 0
+VerifierAnswer c s nodes roots l r ext ext′ room room′ =
+    VerifierEvaluates (verifierRows c s (lengths nodes roots l room) (length ext) (frameLimits s) nodes roots)
+    (values goldilocks (leaves (verifierStrides s) l) nodes (c .nodes)) (c .nodes) (c .roots) roots r ext ext′ room room′

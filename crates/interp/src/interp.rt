@@ -10,7 +10,7 @@ ghost use Rattle.interp.specs.Values.{values};
 ghost use Rattle.interp.specs.Frame.{lent, leaves, proverStrides, verifierStrides, rowStrides, frameLimits, rowLimits};
 ghost use Rattle.interp.specs.Operations.{Ready};
 ghost use Rattle.interp.specs.Writes.{RootsIn, Completes};
-ghost use Rattle.interp.specs.Evaluation.{TablesOk, proverRest, proverRows, ProverAnswer};
+ghost use Rattle.interp.specs.Evaluation.{TablesOk, proverRest, proverRows, verifierRest, verifierRows, ProverAnswer, VerifierAnswer};
 use super::evals::write_roots;
 use super::frame::Lengths;
 use super::frame::Limits;
@@ -180,6 +180,97 @@ pub fn eval_program(
                 challenges,
                 alphas,
                 &mut base[..],
+                &mut ext[..],
+                &mut room[..],
+            );
+            Outcome::Done
+        }
+    }
+}
+
+// 14, 7 and 13, once the memory suffices.
+fn verifier_rest(c: Counts, s: Shape, ext: usize, nodes: &[u32], roots: &[u32]) -> Outcome
+    requires { ⌜ TablesOk c (length (now nodes)) (length (now roots)) ⌝ }
+    ensures { λ r. ⌜ saidOfOutcome r ≡ first (verifierRest c ext (frameLimits s) (now (nodes .entry)) (now (roots .entry))) (gives []) ⌝ }
+{
+    let count = c.roots;
+    if ext < 3 * count {
+        return Outcome::Refused(Refusal::ShortEvals);
+    }
+    form_refusal(c, frame_limits(s), nodes, roots)
+}
+
+fn verifier_refusal(
+    c: Counts,
+    s: Shape,
+    l: Lengths,
+    ext: usize,
+    nodes: &[u32],
+    roots: &[u32],
+) -> Outcome
+    requires { ⌜ (l .nodes ≡ length (now nodes)) × (l .roots ≡ length (now roots)) ⌝ }
+    ensures { λ r. ⌜ saidOfOutcome r ≡ first (verifierRows c s l ext (frameLimits s) (now (nodes .entry)) (now (roots .entry))) (gives []) ⌝ }
+{
+    match memory_refusal(c, s, 3, l) {
+        Outcome::Refused(why) => Outcome::Refused(why),
+        Outcome::Done => verifier_rest(c, s, ext, nodes, roots),
+    }
+}
+
+// The verifier's evaluator: main cells are extension values, and every constraint goes into ext_evals.
+pub fn eval_program_verifier(
+    c: Counts,
+    s: Shape,
+    offset: Ext,
+    nodes: &[u32],
+    bases: &[u64],
+    exts: &[u64],
+    roots: &[u32],
+    main: &[u64],
+    aux: &[u64],
+    challenges: &[u64],
+    alphas: &[u64],
+    ext: &mut [u64],
+    room: &mut [u64],
+) -> Outcome
+    ensures { λ r. ⌜ VerifierAnswer c s (now (nodes .entry)) (now (roots .entry)) (lent (now (bases .entry)) (now (exts .entry)) (now (main .entry)) (now (aux .entry)) (now (challenges .entry)) (now (alphas .entry)) (offset .limbs)) r (now (ext .entry)) (now (ext .exit)) (now (room .entry)) (now (room .exit)) ⌝ }
+{
+    let l = Lengths {
+        nodes: nodes.len(),
+        bases: bases.len(),
+        exts: exts.len(),
+        roots: roots.len(),
+        main: main.len(),
+        aux: aux.len(),
+        challenges: challenges.len(),
+        alphas: alphas.len(),
+        room: room.len(),
+    };
+    match verifier_refusal(c, s, l, ext.len(), nodes, roots) {
+        Outcome::Refused(why) => Outcome::Refused(why),
+        Outcome::Done => {
+            let t = Strides {
+                wide: true,
+                main: s.main,
+                aux: s.aux,
+            };
+            // No root is base here, so nothing is written to this.
+            let mut none = [0u64; 1];
+            evaluate(
+                c.nodes,
+                c.roots,
+                0,
+                t,
+                offset,
+                nodes,
+                bases,
+                exts,
+                roots,
+                main,
+                aux,
+                challenges,
+                alphas,
+                &mut none,
                 &mut ext[..],
                 &mut room[..],
             );
