@@ -81,10 +81,13 @@ abbrev pub rowShape : ℕ → Shape
 rowShape width = record { steps = 1; main = width; aux = 0; challenges = 0; alphas = 0 }
 
 -- 6: no such constraint; 12: its root is extension, and the place is its number
+abbrev pub askedRow : List ℕ → List ℕ → ℕ → Row
+askedRow nodes roots asked = record { holds = not (eqb (rootDim nodes roots asked) 0); number = 12; place = asked }
+
 abbrev pub rowRest : Counts → ℕ → Limits → List ℕ → List ℕ → List Row
 rowRest c asked m nodes roots =
     row (leb (c .roots) asked) 6
-    ∷ (formRows c m nodes roots ++ (record { holds = not (eqb (rootDim nodes roots asked) 0); number = 12; place = asked } ∷ []))
+    ∷ (formRows c m nodes roots ++ (askedRow nodes roots asked ∷ []))
 
 abbrev pub rowRows : Counts → ℕ → ℕ → Lengths → Limits → List ℕ → List ℕ → List Row
 rowRows c width asked l m nodes roots = memoryRows c (rowShape width) 1 l ++ rowRest c asked m nodes roots

@@ -10,7 +10,7 @@ ghost use Rattle.interp.specs.Values.{values};
 ghost use Rattle.interp.specs.Frame.{lent, leaves, proverStrides, verifierStrides, rowStrides, frameLimits, rowLimits};
 ghost use Rattle.interp.specs.Operations.{Ready};
 ghost use Rattle.interp.specs.Writes.{RootsIn, Completes};
-ghost use Rattle.interp.specs.Evaluation.{TablesOk, proverRest, proverRows, verifierRest, verifierRows, ProverAnswer, VerifierAnswer};
+ghost use Rattle.interp.specs.Evaluation.{TablesOk, proverRest, proverRows, verifierRest, verifierRows, rowRest, rowRows, ProverAnswer, VerifierAnswer};
 use super::evals::write_roots;
 use super::frame::Lengths;
 use super::frame::Limits;
@@ -18,6 +18,7 @@ use super::frame::Strides;
 use super::refuse::form_refusal;
 use super::refuse::lowest_ext_root;
 use super::refuse::memory_refusal;
+use super::refuse::root_is_ext;
 use super::refuse::short_evals;
 use super::run::run;
 use field::extensions_goldilocks::Ext;
@@ -276,5 +277,69 @@ pub fn eval_program_verifier(
             );
             Outcome::Done
         }
+    }
+}
+
+// A base value, or a refusal.
+pub enum Evaluated {
+    Base(u64),
+    Rejected(Refusal),
+}
+
+fn row_limits(width: usize) -> Limits
+    ensures { λ r. ⌜ r ≡ rowLimits width ⌝ }
+{
+    Limits {
+        steps: 256,
+        main: width,
+        aux: 0,
+        challenges: 0,
+        alphas: 0,
+        offsets: 0,
+    }
+}
+
+// 6, 7, 13 and 12, once the memory suffices.
+fn row_rest(c: Counts, width: usize, asked: usize, nodes: &[u32], roots: &[u32]) -> Outcome
+    requires { ⌜ TablesOk c (length (now nodes)) (length (now roots)) ⌝ }
+    ensures { λ r. ⌜ saidOfOutcome r ≡ first (rowRest c asked (rowLimits width) (now (nodes .entry)) (now (roots .entry))) (gives []) ⌝ }
+{
+    if c.roots <= asked {
+        return Outcome::Refused(Refusal::NoConstraint);
+    }
+    match form_refusal(c, row_limits(width), nodes, roots) {
+        Outcome::Refused(why) => Outcome::Refused(why),
+        Outcome::Done => {
+            let root = roots[asked] as usize;
+            if root_is_ext(nodes, root) {
+                Outcome::Refused(Refusal::ExtensionRoot { place: asked })
+            } else {
+                Outcome::Done
+            }
+        }
+    }
+}
+
+fn row_refusal(
+    c: Counts,
+    width: usize,
+    asked: usize,
+    l: Lengths,
+    nodes: &[u32],
+    roots: &[u32],
+) -> Outcome
+    requires { ⌜ (l .nodes ≡ length (now nodes)) × (l .roots ≡ length (now roots)) ⌝ }
+    ensures { λ r. ⌜ saidOfOutcome r ≡ first (rowRows c width asked l (rowLimits width) (now (nodes .entry)) (now (roots .entry))) (gives []) ⌝ }
+{
+    let s = Shape {
+        steps: 1,
+        main: width,
+        aux: 0,
+        challenges: 0,
+        alphas: 0,
+    };
+    match memory_refusal(c, s, 1, l) {
+        Outcome::Refused(why) => Outcome::Refused(why),
+        Outcome::Done => row_rest(c, width, asked, nodes, roots),
     }
 }

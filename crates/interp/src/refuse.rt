@@ -155,6 +155,13 @@ pub fn short_evals(c: Counts, base: usize, ext: usize) -> bool
     base < count
 }
 
+pub fn root_is_ext(nodes: &[u32], root: usize) -> bool
+    requires { ⌜ 4 * root + 4 ≤ length (now nodes) ⌝ }
+    ensures { λ r. ⌜ r ≡ not (eqb (nodeAt (now (nodes .entry)) root .dim) 0) ⌝ }
+{
+    nodes[4 * root + 3] != 0
+}
+
 // Whether root i has to be base and is not.
 fn wrong_class(i: usize, leading: usize, nodes: &[u32], root: usize) -> bool
     requires { ⌜ 4 * root + 4 ≤ length (now nodes) ⌝ }
@@ -163,7 +170,7 @@ fn wrong_class(i: usize, leading: usize, nodes: &[u32], root: usize) -> bool
     if leading <= i {
         return false;
     }
-    nodes[4 * root + 3] != 0
+    root_is_ext(nodes, root)
 }
 
 pub fn lowest_ext_root(c: Counts, nodes: &[u32], roots: &[u32]) -> Place
