@@ -3,12 +3,12 @@
 use mathlib.Core.Bool.{Bool, true, false, cond, _&&_, _||_}
 use mathlib.Core.List.{List, [], _∷_, _++_}
 use mathlib.Core.Path.{_≡_, refl, sym, ap, _∙_}
-use Prim.Native.Nat.{ℕ, _*_, _<_, _≤_, min}
+use Prim.Native.Nat.{ℕ, _+_, _*_, _<_, _≤_, min}
 use native.Mathlib.Nat.{min-eq-left, min-eq-right, le-of-lt}
 use native.Mathlib.Omega.{arith}
-use lib.Dec.{ltb}
+use lib.Dec.{leb, ltb}
 use lib.ListN.{length, getD}
-use borrow.Author.Tests.{ltb-false, lt-ltb, ltb-true}
+use borrow.Author.Tests.{leb-false, ltb-false, lt-ltb, ltb-true}
 use Rattle.laws.proofs.Cases.{by-test}
 use Rattle.laws.proofs.Tests.{clash, or-left, or-right}
 use Rattle.ir.specs.declared.program.Counts.{Counts}
@@ -18,16 +18,21 @@ use Rattle.ir.specs.declared.refusal.Outcome.{Outcome}
 use Rattle.ir.specs.declared.refusal.Outcome.the-variants.{Done, Refused}
 use Rattle.ir.specs.Program.{numBase}
 use Rattle.ir.specs.Refusals.{Said, Row, row, rowAt, gives, saidOf, saidOfOutcome, first, anyHolds}
-use Rattle.ir.proofs.RefusalLaws.{numbered, done-rows, loud-rows}
+use Rattle.ir.proofs.RefusalLaws.{numbered, done-rows, loud-rows, first-any, first-none}
 use Rattle.interp.specs.declared.frame.Limits.{Limits}
 use Rattle.interp.specs.declared.frame.Lengths.{Lengths}
 use Rattle.interp.specs.declared.frame.Strides.{Strides}
 use Rattle.interp.specs.Values.{Value}
-use Rattle.interp.specs.Frame.{Lent, proverStrides, verifierStrides, frameLimits}
+use Rattle.interp.specs.Frame.{Lent, proverStrides, verifierStrides, rowStrides, frameLimits, rowLimits}
 use Rattle.interp.specs.Operations.{Ready}
+use Rattle.field.specs.Base.{Least}
+use Rattle.interp.specs.declared.interp.Evaluated.the-variants.{Base, Rejected}
+use Rattle.interp.specs.Evals.{baseWord}
+use Rattle.interp.specs.Room.{RoomHolds}
 use Rattle.interp.specs.Writes.{RootIn, RootsIn, Completes}
-use Rattle.interp.specs.Evaluation.{memoryRows, formRows, shortEvals, extRoot, proverRest, proverRows, verifierRest, verifierRows, lengths, Evaluates, VerifierEvaluates}
-use Rattle.interp.proofs.ReadyLaws.{ready, prover-fits, verifier-fits}
+use Rattle.interp.specs.Evaluation.{memoryRows, formRows, shortEvals, extRoot, proverRest, proverRows, verifierRest, verifierRows, rowShape, askedRow, rowRest, rowRows, lengths, Evaluates, VerifierEvaluates, RowEvaluates}
+use Rattle.interp.proofs.EvalLaws.{word-is}
+use Rattle.interp.proofs.ReadyLaws.{ready, prover-fits, verifier-fits, row-fits}
 use Rattle.interp.proofs.RefuseLaws.{MemoryOk, memory-ok, FormOk, form-ok}
 
 -- ---- the promise, refused and done
@@ -149,3 +154,51 @@ verifier-asked c s nodes roots l base ext room h =
       record { roots-long = t .roots-long; root = λ i q. let b = o .formed .root i q in record { held = omega arith; base-place = λ u. absurd (omega arith); ext-place = λ u. omega arith } },
       o .formed .root,
     )
+
+-- ---- one row
+
+module _ (rows : List Row) {env : ℕ → Value ℕ (List ℕ)} {n asked : ℕ} {roots : List ℕ} {o : Outcome} (h : saidOfOutcome o ≡ first rows (gives [])) where
+  pub row-refused : {why : Refusal} {room : List ℕ} → o ≡ Refused why → RowEvaluates rows env n asked roots (Rejected why) room room
+  row-refused {why} e =
+      let l = loud-rows rows e h in
+      let q : saidOf why ≡ first rows (gives []) = rw e at h in
+      record { said = q ∙ first-any rows (gives []) (gives (baseWord (env (getD roots asked 0)) ∷ [])) l; room-kept = λ t. refl; room-holds = λ t. clash l t }
+
+  pub row-done : {v : ℕ} {room room′ : List ℕ} → numbered rows ≡ true → o ≡ Done → RoomHolds env n room room′ → getD roots asked 0 < n → Least (getD room′ (4 * getD roots asked 0 + 1) 0) v → RowEvaluates rows env n asked roots (Base v) room room′
+  row-done {v} {room} {room′} m e w b i =
+      let q = done-rows rows m e h in
+      let r = getD roots asked 0 in
+      record {
+        said = ap (λ (x : ℕ). gives (x ∷ [])) (word-is room′ r v (env r) i (w .node r b .stands)) ∙ sym (first-none rows (gives (baseWord (env r) ∷ [])) q);
+        room-kept = λ t. clash t q;
+        room-holds = λ t. w;
+      }
+
+-- what the pass over one row asks, and where its root stands
+pub record RowOk (c : Counts) (asked : ℕ) (nodes roots : List ℕ) (l : Lent) (room : ℕ) : Type 0 where
+  pub pass : Ready rowStrides nodes (c .nodes) l room
+  pub asked-below : asked < c .roots
+  pub roots-long : c .roots ≤ length roots
+  pub root-below : getD roots asked 0 < c .nodes
+  pub room-long : 4 * c .nodes ≤ room
+
+pub row-ok : (c : Counts) (width asked : ℕ) (nodes roots : List ℕ) (l : Lent) (room : List ℕ) → anyHolds (rowRows c width asked (lengths nodes roots l room) (rowLimits width) nodes roots) ≡ false → RowOk c asked nodes roots l (length room)
+row-ok c width asked nodes roots l room h =
+    let k = lengths nodes roots l room in
+    let rest = rowRest c asked (rowLimits width) nodes roots in
+    let last = askedRow nodes roots asked ∷ [] in
+    let r = second-part (memoryRows c (rowShape width) 1 k) rest h in
+    let e = leb (c .roots) asked in
+    let f = anyHolds (formRows c (rowLimits width) nodes roots ++ last) in
+    let m = memory-ok c (rowShape width) 1 k (first-part (memoryRows c (rowShape width) 1 k) rest h) in
+    let o = form-ok c (rowLimits width) nodes roots (first-part (formRows c (rowLimits width) nodes roots) last (or-right e f r)) in
+    let t = m .tables-long in
+    let g = m .frame-long .main-long in
+    let b = leb-false (c .roots) asked (or-left e f r) in
+    record {
+      pass = ready rowStrides (rowLimits width) c l (row-fits width c l (t .bases-long) (t .exts-long) (omega arith)) nodes roots (length room) (o .formed) (o .inside) (t .nodes-long) (m .room-long);
+      asked-below = b;
+      roots-long = t .roots-long;
+      root-below = o .formed .root asked b;
+      room-long = m .room-long;
+    }

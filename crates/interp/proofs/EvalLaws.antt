@@ -24,7 +24,7 @@ use Rattle.interp.specs.Writes.{WritesRoot, WritesRoots, Completes}
 use Rattle.interp.specs.Operations.{StandsIn}
 use Rattle.interp.proofs.OperationLaws.{first-word, limb-words}
 
-word-is : (room : List ℕ) (root r : ℕ) (v : Value ℕ (List ℕ)) → Least (getD room (4 * root + 1) 0) r → StandsIn room v root → r ≡ baseWord v
+pub word-is : (room : List ℕ) (root r : ℕ) (v : Value ℕ (List ℕ)) → Least (getD room (4 * root + 1) 0) r → StandsIn room v root → r ≡ baseWord v
 unfolding remainders
 word-is room root r v h s =
     least-exact h

@@ -15,12 +15,14 @@ use Rattle.ir.specs.declared.refusal.Outcome.{Outcome}
 use Rattle.ir.specs.Words.{nodeAt}
 use Rattle.ir.specs.Program.{numBase, tooManyNodes, tooManyRoots, shortTables, illFormed}
 use Rattle.ir.specs.Shape.{overShape}
-use Rattle.ir.specs.Refusals.{Said, Row, row, rowAt, first, anyHolds, gives, saidOfOutcome}
+use Rattle.ir.specs.Refusals.{Said, Row, row, rowAt, first, anyHolds, gives, saidOf, saidOfOutcome}
 use Rattle.interp.specs.declared.frame.Limits.{Limits}
 use Rattle.interp.specs.declared.frame.Lengths.{Lengths}
+use Rattle.interp.specs.declared.interp.Evaluated.{Evaluated}
+use Rattle.interp.specs.declared.interp.Evaluated.the-variants.{Base, Rejected}
 use Rattle.interp.specs.Values.{Value, values}
-use Rattle.interp.specs.Frame.{Lent, leaves, nodeOutside, proverStrides, verifierStrides, frameLimits}
-use Rattle.interp.specs.Evals.{baseEvals, extEvals}
+use Rattle.interp.specs.Frame.{Lent, leaves, nodeOutside, proverStrides, verifierStrides, rowStrides, frameLimits, rowLimits}
+use Rattle.interp.specs.Evals.{baseWord, baseEvals, extEvals}
 use Rattle.interp.specs.Room.{RoomHolds}
 
 -- ---- rows that the evaluators share
@@ -148,3 +150,18 @@ abbrev pub VerifierAnswer : Counts → Shape → (nodes roots : List ℕ) → Le
 VerifierAnswer c s nodes roots l r ext ext′ room room′ =
     VerifierEvaluates (verifierRows c s (lengths nodes roots l room) (length ext) (frameLimits s) nodes roots)
     (values goldilocks (leaves (verifierStrides s) l) nodes (c .nodes)) (c .nodes) (c .roots) roots r ext ext′ room room′
+
+-- one row: the asked constraint's base value
+abbrev pub saidOfEvaluated : Evaluated → Said
+saidOfEvaluated (Base v) = gives (v ∷ [])
+saidOfEvaluated (Rejected r) = saidOf r
+
+pub record RowEvaluates (rows : List Row) (env : ℕ → Value ℕ (List ℕ)) (n asked : ℕ) (roots : List ℕ) (r : Evaluated) (room room′ : List ℕ) : Type 0 where
+  pub said : saidOfEvaluated r ≡ first rows (gives (baseWord (env (getD roots asked 0)) ∷ []))
+  pub room-kept : anyHolds rows ≡ true → room′ ≡ room
+  pub room-holds : anyHolds rows ≡ false → RoomHolds env n room room′
+
+abbrev pub RowAnswer : Counts → ℕ → ℕ → (nodes roots : List ℕ) → Lent → Evaluated → (room room′ : List ℕ) → Type 0
+RowAnswer c width asked nodes roots l r room room′ =
+    RowEvaluates (rowRows c width asked (lengths nodes roots l room) (rowLimits width) nodes roots)
+    (values goldilocks (leaves rowStrides l) nodes (c .nodes)) (c .nodes) asked roots r room room′

@@ -1,7 +1,7 @@
 -- The frame: what each evaluator reads for a leaf, and when a leaf is outside.
 -- Assumes nothing.
 use mathlib.Core.Bool.{Bool, true, false, cond, _||_}
-use mathlib.Core.List.{List, []}
+use mathlib.Core.List.{List, [], _∷_}
 use mathlib.Core.Path.{_≡_}
 use Prim.Native.Nat.{ℕ, _+_, _*_, _%_, _<_, _≤_}
 use lib.Dec.{eqb, leb, ltb}
@@ -35,6 +35,10 @@ pub record Lent : Type 0 where
 abbrev pub lent : (bases exts main aux challenges alphas offset : List ℕ) → Lent
 lent bases exts main aux challenges alphas offset =
     record { bases = bases; exts = exts; main = main; aux = aux; challenges = challenges; alphas = alphas; offset = offset }
+
+-- one row: no other cells and no uniforms
+abbrev pub rowLent : (bases exts row : List ℕ) → Lent
+rowLent bases exts row = lent bases exts row [] [] [] (0 ∷ 0 ∷ 0 ∷ [])
 
 -- cells go by step, then column: `stride` cells a step. Main cells are extension values where they are wide
 abbrev pub mainCell : Bool → ℕ → List ℕ → ℕ → ℕ → Value ℕ (List ℕ)

@@ -7,10 +7,11 @@ ghost use lib.ListN.{length, getD};
 ghost use Rattle.field.specs.Tower.{goldilocks};
 ghost use Rattle.ir.specs.Refusals.{saidOfOutcome, first, gives};
 ghost use Rattle.interp.specs.Values.{values};
-ghost use Rattle.interp.specs.Frame.{lent, leaves, proverStrides, verifierStrides, rowStrides, frameLimits, rowLimits};
+ghost use Rattle.interp.specs.Frame.{lent, rowLent, leaves, rowStrides, frameLimits, rowLimits};
 ghost use Rattle.interp.specs.Operations.{Ready};
 ghost use Rattle.interp.specs.Writes.{RootsIn, Completes};
-ghost use Rattle.interp.specs.Evaluation.{TablesOk, proverRest, proverRows, verifierRest, verifierRows, rowRest, rowRows, ProverAnswer, VerifierAnswer};
+ghost use Rattle.interp.specs.Evaluation.{TablesOk, proverRest, proverRows, verifierRest, verifierRows, rowRest, rowRows, ProverAnswer, VerifierAnswer, RowAnswer};
+ghost use Rattle.interp.specs.Room.{RoomHolds};
 use super::evals::write_roots;
 use super::frame::Lengths;
 use super::frame::Limits;
@@ -22,6 +23,7 @@ use super::refuse::root_is_ext;
 use super::refuse::short_evals;
 use super::run::run;
 use field::extensions_goldilocks::Ext;
+use field::goldilocks::Fp;
 use ir::frame::Shape;
 use ir::program::Counts;
 use ir::refusal::Outcome;
@@ -341,5 +343,67 @@ fn row_refusal(
     match memory_refusal(c, s, 1, l) {
         Outcome::Refused(why) => Outcome::Refused(why),
         Outcome::Done => row_rest(c, width, asked, nodes, roots),
+    }
+}
+
+// The pass over one row: there are no other cells and no uniforms.
+fn row_pass(n: usize, nodes: &[u32], bases: &[u64], exts: &[u64], row: &[u64], room: &mut [u64])
+    requires { ⌜ Ready rowStrides (now nodes) n (rowLent (now bases) (now exts) (now row)) (length (now room)) ⌝ }
+    ensures { λ _. ⌜ RoomHolds (values goldilocks (leaves rowStrides (rowLent (now (bases .entry)) (now (exts .entry)) (now (row .entry)))) (now (nodes .entry)) n) n (now (room .entry)) (now (room .exit)) ⌝ }
+{
+    let t = Strides {
+        wide: false,
+        main: 0,
+        aux: 0,
+    };
+    let offset = Ext { limbs: [0, 0, 0] };
+    let none = &row[..0];
+    run(
+        n,
+        t,
+        offset,
+        nodes,
+        bases,
+        exts,
+        row,
+        none,
+        none,
+        none,
+        &mut room[..],
+    );
+}
+
+// One constraint over one row of main cells, whose offset is ignored; the root has to be base.
+pub fn eval_program_base(
+    c: Counts,
+    width: usize,
+    asked: usize,
+    nodes: &[u32],
+    bases: &[u64],
+    exts: &[u64],
+    roots: &[u32],
+    row: &[u64],
+    room: &mut [u64],
+) -> Evaluated
+    ensures { λ r. ⌜ RowAnswer c width asked (now (nodes .entry)) (now (roots .entry)) (rowLent (now (bases .entry)) (now (exts .entry)) (now (row .entry))) r (now (room .entry)) (now (room .exit)) ⌝ }
+{
+    let l = Lengths {
+        nodes: nodes.len(),
+        bases: bases.len(),
+        exts: exts.len(),
+        roots: roots.len(),
+        main: row.len(),
+        aux: 0,
+        challenges: 0,
+        alphas: 0,
+        room: room.len(),
+    };
+    match row_refusal(c, width, asked, l, nodes, roots) {
+        Outcome::Refused(why) => Evaluated::Rejected(why),
+        Outcome::Done => {
+            row_pass(c.nodes, nodes, bases, exts, row, &mut room[..]);
+            let root = roots[asked] as usize;
+            Evaluated::Base(Fp::reduce(room[4 * root + 1]))
+        }
     }
 }

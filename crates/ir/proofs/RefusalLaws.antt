@@ -88,3 +88,12 @@ pub loud-rows : (a : List Row) {o : Outcome} {why : Refusal} → o ≡ Refused w
 loud-rows a {o} {why} e h =
     let q : saidOf why ≡ first a (gives []) = rw e at h in
     refused-loud [] a (λ z. refusal-number why (ap (λ (s : Said). s .number) q ∙ z))
+
+-- what is done matters only where no row holds
+pub first-any : (a : List Row) (s t : Said) → anyHolds a ≡ true → first a s ≡ first a t
+first-any [] s t h = clash h refl
+first-any (r ∷ rs) s t h = by-test (r .holds) (first (r ∷ rs) s ≡ first (r ∷ rs) t) (λ q. rw q) λ q. rw q (first-any rs s t (rw q at h))
+
+pub first-none : (a : List Row) (s : Said) → anyHolds a ≡ false → first a s ≡ s
+first-none [] s h = refl
+first-none (r ∷ rs) s h = rw (or-left (r .holds) (anyHolds rs) h) (first-none rs s (or-right (r .holds) (anyHolds rs) h))
