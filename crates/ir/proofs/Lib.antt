@@ -1,2 +1,3 @@
 -- Laws of programs.
 pub mod ProgramLaws
+pub mod VarLaws
