@@ -1,3 +1,4 @@
 -- Laws of programs.
+pub mod BytesLaws
 pub mod ProgramLaws
 pub mod VarLaws

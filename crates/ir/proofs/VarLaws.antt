@@ -12,28 +12,24 @@ use Rattle.ir.specs.declared.node.Var.{Var}
 use Rattle.ir.specs.Words.{bit, mainOf, offsetOf, rowOf, columnOf, packed, unpacked}
 
 -- the word y of a main mark, an offset and a row
-word : Bool → ℕ → ℕ → ℕ
+abbrev word : Bool → ℕ → ℕ → ℕ
 word m o r = bit m * 65536 + o * 256 + r
 
 module _ (o r : ℕ) (ho : o < 256) (hr : r < 256) where
   word-main : (m : Bool) → mainOf (word m o r) ≡ m
-  unfolding word
   word-main true = let e : (1 * 65536 + o * 256 + r) / 65536 % 2 ≡ 1 = omega arith in rw e
   word-main false = let e : (0 * 65536 + o * 256 + r) / 65536 % 2 ≡ 0 = omega arith in rw e
 
   word-offset : (m : Bool) → offsetOf (word m o r) ≡ o
-  unfolding word
   word-offset true = omega arith
   word-offset false = omega arith
 
   word-row : (m : Bool) → rowOf (word m o r) ≡ r
-  unfolding word
   word-row true = omega arith
   word-row false = omega arith
 
 -- a Var whose fields fit their widths comes back
 pub unpacked-packed : (v : Var) → v .offset < 256 → v .row < 256 → v .col < 65536 → unpacked (packed v) ≡ v
-unfolding word
 unpacked-packed v ho hr hc =
     let c : columnOf (v .col) ≡ v .col = omega arith in
     rw (word-main (v .offset) (v .row) ho hr (v .main), word-offset (v .offset) (v .row) ho hr (v .main), word-row (v .offset) (v .row) ho hr (v .main), c)

@@ -1,4 +1,5 @@
 -- What the program's contracts cite.
+pub mod Bytes
 pub mod Program
 pub mod Refusals
 pub mod Words

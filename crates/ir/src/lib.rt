@@ -1,3 +1,4 @@
+pub mod bytes;
 pub mod node;
 pub mod program;
 pub mod refusal;

@@ -3,6 +3,7 @@
 use mathlib.Core.Path.{_≡_, refl, sym, ap, _∙_}
 use mathlib.Core.List.{List, [], _∷_, _++_, append-assoc}
 use Prim.Native.Nat.{ℕ, suc, _+_, _-_, _<_, _≤_}
+use native.Mathlib.Nat.{add-zero}
 use native.Mathlib.Omega.{arith}
 use lib.ListN.{length, getD, set, take, drop}
 use lib.Seq.{drop-cons, sets, sets-eq, length-take-le, take-at, drop-at, drop-set-add, drop-set-lt, take-set-le}
@@ -47,3 +48,8 @@ sets-before (a ∷ ws) l i m k h = sets-before ws (set l i a) (suc i) m k (omega
 pub sets-after : (ws l : List ℕ) (i k : ℕ) → i + length ws ≤ k → drop k (sets l i ws) ≡ drop k l
 sets-after [] l i k h = refl
 sets-after (a ∷ ws) l i k h = sets-after ws (set l i a) (suc i) k (omega arith) ∙ drop-set-lt k l i a (omega arith)
+
+-- words stored in two runs, the second where the first ends
+pub sets-append : (vs ws l : List ℕ) (i : ℕ) → sets l i (vs ++ ws) ≡ sets (sets l i vs) (i + length vs) ws
+sets-append [] ws l i = rw (add-zero i)
+sets-append (a ∷ vs) ws l i = let e : i + suc (length vs) ≡ suc i + length vs = omega arith in rw e (sets-append vs ws (set l i a) (suc i))
