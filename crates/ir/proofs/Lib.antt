@@ -1,4 +1,5 @@
 -- Laws of programs.
 pub mod BytesLaws
 pub mod ProgramLaws
+pub mod ReadsLaws
 pub mod VarLaws

@@ -1,0 +1,84 @@
+-- Laws of the columns that a program reads at a later row, and of the map that finds them.
+-- Assumes nothing.
+use mathlib.Core.Bool.{Bool, true, false, cond, _&&_, _||_, or-true, or-false}
+use mathlib.Core.List.{List}
+use mathlib.Core.Option.{none, some}
+use mathlib.Core.Path.{_≡_, refl, sym, ap, _∙_}
+use Prim.Native.Nat.{ℕ, _+_, _<_, _≤_}
+use native.Mathlib.Omega.{arith}
+use lib.Dec.{eqb, lit≤}
+use lib.ListN.{length, getD, set, length-set}
+use lib.Seq.{getD-set-same, getD-set-other}
+use borrow.Author.Tests.{eqb-true, eqb-false}
+use Rattle.laws.proofs.Cases.{by-test}
+use Rattle.laws.proofs.Folds.{none-some, any-start, any-more}
+use Rattle.laws.specs.Folds.{anyBelow}
+use Rattle.ir.specs.Marks.{markedBy, Marked}
+use Rattle.ir.specs.Reads.{varOf, readsNext, columnAt, readsColumn}
+use Rattle.ir.specs.Words.{Node, nodeAt, bit}
+
+-- no column lies further up
+pub column-below : (width : ℕ) (w : Node) → columnAt width w < width + 65536
+unfolding columnAt
+column-below width w =
+    by-test (varOf w .main) (columnAt width w < width + 65536) (λ t. rw t (omega arith)) λ t. rw t (omega arith)
+
+-- ---- one node
+
+-- what a search found, or did not
+found : (b : Bool) (x k : ℕ) → some k ≡ cond b (some x) none → (b ≡ true) × (k ≡ x)
+found true x k h = (refl, cc)
+found false x k h = none-some refl (sym h)
+
+not-found : (b : Bool) (x : ℕ) → none ≡ cond b (some x) none → b ≡ false
+not-found true x h = none-some (sym h) refl
+not-found false x h = refl
+
+module _ (width : ℕ) (w : Node) where
+  pub found-below : (k : ℕ) → some k ≡ cond (readsNext w) (some (columnAt width w)) none → k < width + 65536
+  found-below k h = omega (arith, found (readsNext w) (columnAt width w) k h, column-below width w)
+
+  pub marked-found : (map : List ℕ) (k : ℕ) → some k ≡ cond (readsNext w) (some (columnAt width w)) none → set map k 1 ≡ markedBy width w map
+  marked-found map k h = let f = found (readsNext w) (columnAt width w) k h in rw (f .0, f .1)
+
+  pub marked-none : (map : List ℕ) → none ≡ cond (readsNext w) (some (columnAt width w)) none → map ≡ markedBy width w map
+  marked-none map h = rw (not-found (readsNext w) (columnAt width w) h)
+
+  -- what a place says of the nodes so far, b, and then of one more
+  place-more : (map : List ℕ) (c : ℕ) (b : Bool) (v : ℕ) → width + 65536 ≤ length map → getD map c 0 ≡ cond b 1 v → getD (markedBy width w map) c 0 ≡ cond (b || readsNext w && eqb (columnAt width w) c) 1 v
+  place-more map c b v l h =
+      let k = columnAt width w in
+      by-test (readsNext w) (getD (markedBy width w map) c 0 ≡ cond (b || readsNext w && eqb k c) 1 v)
+      (λ t.
+      by-test (eqb k c) (getD (markedBy width w map) c 0 ≡ cond (b || readsNext w && eqb k c) 1 v)
+      (λ u. rw (t, u, or-true b) (ap (λ (x : ℕ). getD (set map k 1) x 0) (sym (eqb-true k c u)) ∙ getD-set-same map k 1 0 (omega (arith, column-below width w))))
+      λ u. rw (t, u, or-false b) (getD-set-other map k c 1 0 (λ e. eqb-false k c u (sym e)) ∙ h))
+      λ t. rw (t, or-false b) h
+
+  marked-long : (map : List ℕ) → length (markedBy width w map) ≡ length map
+  marked-long map =
+      by-test (readsNext w) (length (markedBy width w map) ≡ length map) (λ t. rw t (length-set map (columnAt width w) 1)) λ t. rw t
+
+-- ---- all nodes, one after another
+
+pub marked-start : (nodes : List ℕ) (width : ℕ) (old : List ℕ) → Marked nodes 0 width old old
+marked-start nodes width old =
+    record { long = refl; place = λ c. rw (any-start (readsColumn nodes width c)) }
+
+pub marked-more : (nodes : List ℕ) (i width : ℕ) (old mid new : List ℕ) → width + 65536 ≤ length old → Marked nodes i width old mid → new ≡ markedBy width (nodeAt nodes i) mid → Marked nodes (i + 1) width old new
+unfolding readsColumn
+marked-more nodes i width old mid new l m e =
+    rw e
+    (record {
+      long = marked-long width (nodeAt nodes i) mid ∙ m .long;
+      place =
+          λ c.
+          rw (any-more (readsColumn nodes width c) i)
+          (place-more width (nodeAt nodes i) mid c (anyBelow (readsColumn nodes width c) i) (getD old c 0) (omega (arith, m .long)) (m .place c));
+    })
+
+-- ---- marks as numbers
+
+pub bit-small : (b : Bool) → bit b ≤ 1
+bit-small true = lit≤ tt
+bit-small false = lit≤ tt

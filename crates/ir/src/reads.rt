@@ -1,0 +1,117 @@
+// The trace columns that a program reads at a later row. The main columns come first and the aux columns after them, as
+// in the verifier's frame.
+ghost use mathlib.Core.Bool.{cond, _||_};
+ghost use mathlib.Core.List.{[], _∷_};
+ghost use mathlib.Core.Option.{none, some};
+ghost use mathlib.Core.Path.{_≡_};
+ghost use Prim.Native.Nat.{_+_, _*_, _<_, _≤_};
+ghost use lib.Dec.{eqb, leb};
+ghost use lib.ListN.{length};
+ghost use lib.Seq.{sets};
+ghost use Rattle.laws.specs.Folds.{allBelow};
+ghost use Rattle.ir.specs.Words.{nodeAt, bit};
+ghost use Rattle.ir.specs.Refusals.{placeOf};
+ghost use Rattle.ir.specs.Reads.{readsNext, columnAt};
+ghost use Rattle.ir.specs.Marks.{markedBy, Marked, isMarked};
+use super::node::unpack_var;
+use super::node::OP_VAR;
+use super::node::Packed;
+use super::node::Var;
+use super::refusal::Place;
+use super::refusal::Refusal;
+
+// What the map holds for a column that is read.
+const MARK: u8 = 1;
+
+// The columns, written to the caller's room, or why there are none.
+pub enum Columns {
+    Listed { count: usize },
+    Refused(Refusal),
+}
+
+// An offset counts steps and a row counts within a step: either leaves the current row.
+fn is_later(v: Var) -> bool
+    ensures { λ r. ⌜ r ≡ (leb 1 (v .offset) || leb 1 (v .row)) ⌝ }
+{
+    if 1 <= v.offset {
+        return true;
+    }
+    1 <= v.row
+}
+
+fn column_in(v: Var, width: usize) -> usize
+    requires { ⌜ width ≤ 65536 ⌝ }
+    ensures { λ r. ⌜ r ≡ cond (v .main) (v .col) (width + v .col) ⌝ }
+{
+    if v.main {
+        return v.col as usize;
+    }
+    width + (v.col as usize)
+}
+
+// The column that node i reads at a later row, if it is a Var that does.
+fn next_read(nodes: &[u32], i: usize, width: usize) -> Place
+    requires { ⌜ (4 * i + 4 ≤ length (now nodes)) × (width ≤ 65536) ⌝ }
+    ensures { λ r. ⌜ placeOf r ≡ cond (readsNext (nodeAt (now (nodes .entry)) i)) (some (columnAt width (nodeAt (now (nodes .entry)) i))) none ⌝ }
+{
+    let at = 4 * i;
+    if nodes[at] != OP_VAR {
+        return Place::Nowhere;
+    }
+    let v = unpack_var(Packed {
+        a: nodes[at + 1],
+        b: nodes[at + 2],
+    });
+    if is_later(v) {
+        return Place::At(column_in(v, width));
+    }
+    Place::Nowhere
+}
+
+fn mark_read(map: &mut [u8], nodes: &[u32], i: usize, width: usize)
+    requires { ⌜ (width + 65536 ≤ length (now map)) × (4 * i + 4 ≤ length (now nodes)) × (width ≤ 65536) ⌝ }
+    ensures { λ _. ⌜ now (map .exit) ≡ markedBy width (nodeAt (now (nodes .entry)) i) (now (map .entry)) ⌝ }
+{
+    if let Place::At(column) = next_read(nodes, i, width) {
+        map[column] = MARK;
+    }
+}
+
+fn mark_reads(map: &mut [u8], nodes: &[u32], n: usize, width: usize)
+    requires { ⌜ (width + 65536 ≤ length (now map)) × (4 * n ≤ length (now nodes)) × (width ≤ 65536) ⌝ }
+    ensures { λ _. ⌜ Marked (now (nodes .entry)) n width (now (map .entry)) (now (map .exit)) ⌝ }
+{
+    let mut i: usize = 0;
+    while i < n {
+        mark_read(&mut map[..], nodes, i, width);
+        i += 1;
+    }
+}
+
+fn weight(mark: u8) -> usize
+    ensures { λ r. ⌜ r ≡ bit (eqb mark 1) ⌝ }
+{
+    if mark == MARK { 1 } else { 0 }
+}
+
+fn count_marks(map: &[u8], limit: usize) -> usize
+    requires { ⌜ limit ≤ length (now map) ⌝ }
+    ensures { λ r. ⌜ r ≡ length (allBelow (isMarked (now (map .entry))) limit) ⌝ }
+{
+    let mut count: usize = 0;
+    let mut c: usize = 0;
+    while c < limit {
+        count += weight(map[c]);
+        c += 1;
+    }
+    count
+}
+
+fn put_marked(out: &mut [u32], at: usize, column: usize, mark: u8)
+    requires { ⌜ (at + bit (eqb mark 1) ≤ length (now out)) × (column < 131072) ⌝ }
+    ensures { λ _. ⌜ now (out .exit) ≡ sets (now (out .entry)) at (cond (eqb mark 1) (column ∷ []) []) ⌝ }
+{
+    if mark == MARK {
+        out[at] = column as u32;
+    }
+}
