@@ -1,18 +1,20 @@
 -- Laws of the columns that a program reads at a later row, and of the map that finds them.
 -- Assumes nothing.
 use mathlib.Core.Bool.{Bool, true, false, cond, _&&_, _||_, or-true, or-false}
-use mathlib.Core.List.{List}
+use mathlib.Core.List.{List, [], _∷_}
 use mathlib.Core.Option.{none, some}
 use mathlib.Core.Path.{_≡_, refl, sym, ap, _∙_}
 use Prim.Native.Nat.{ℕ, _+_, _<_, _≤_}
+use native.Mathlib.Nat.{zero-add}
 use native.Mathlib.Omega.{arith}
 use lib.Dec.{eqb, lit≤}
 use lib.ListN.{length, getD, set, length-set}
-use lib.Seq.{getD-set-same, getD-set-other}
+use lib.Seq.{getD-set-same, getD-set-other, sets, length-sets}
 use borrow.Author.Tests.{eqb-true, eqb-false}
 use Rattle.laws.proofs.Cases.{by-test}
-use Rattle.laws.proofs.Folds.{none-some, any-start, any-more}
-use Rattle.laws.specs.Folds.{anyBelow}
+use Rattle.laws.proofs.Folds.{none-some, any-start, any-more, all-start, all-more, all-count, all-grows}
+use Rattle.laws.proofs.Parts.{sets-append}
+use Rattle.laws.specs.Folds.{anyBelow, allBelow}
 use Rattle.ir.specs.Marks.{markedBy, Marked}
 use Rattle.ir.specs.Reads.{varOf, readsNext, columnAt, readsColumn}
 use Rattle.ir.specs.Words.{Node, nodeAt, bit}
@@ -82,3 +84,27 @@ marked-more nodes i width old mid new l m e =
 pub bit-small : (b : Bool) → bit b ≤ 1
 bit-small true = lit≤ tt
 bit-small false = lit≤ tt
+
+-- ---- the columns below c, written from the start of a room
+
+module _ (t : ℕ → Bool) (old : List ℕ) where
+  pub record Put (c at : ℕ) (new : List ℕ) : Type 0 where
+    pub next : at ≡ length (allBelow t c)
+    pub words : new ≡ sets old 0 (allBelow t c)
+
+  pub put-start : Put 0 0 old
+  put-start = record { next = rw (all-start t); words = rw (all-start t) }
+
+  pub put-more : (c at at′ : ℕ) (mid new : List ℕ) → Put c at mid → new ≡ sets mid at (cond (t c) (c ∷ []) []) → at′ ≡ at + bit (t c) → Put (c + 1) at′ new
+  put-more c at at′ mid new p e a =
+      record {
+        next = rw (all-count t c, ← p .next) a;
+        words = e ∙ rw (p .next, p .words, all-more t c, sets-append (allBelow t c) (cond (t c) (c ∷ []) []) old 0, zero-add (length (allBelow t c)));
+      }
+
+  pub put-long : {c at : ℕ} {new : List ℕ} → Put c at new → length new ≡ length old
+  put-long {c} p = ap length (p .words) ∙ length-sets old 0 (allBelow t c)
+
+  -- a room for all columns below a limit has the next place
+  pub put-room : {c at : ℕ} {new : List ℕ} (limit : ℕ) → Put c at new → c < limit → length (allBelow t limit) ≤ length old → at + bit (t c) ≤ length old
+  put-room {c} limit p l h = let g : c + 1 ≤ limit = omega arith in omega (arith, all-grows t g, all-count t c, p .next)

@@ -115,3 +115,17 @@ fn put_marked(out: &mut [u32], at: usize, column: usize, mark: u8)
         out[at] = column as u32;
     }
 }
+
+fn put_columns(out: &mut [u32], map: &[u8], limit: usize)
+    requires { ⌜ (limit ≤ length (now map)) × (limit ≤ 131072) × (length (allBelow (isMarked (now map)) limit) ≤ length (now out)) ⌝ }
+    ensures { λ _. ⌜ now (out .exit) ≡ sets (now (out .entry)) 0 (allBelow (isMarked (now (map .entry))) limit) ⌝ }
+{
+    let mut at: usize = 0;
+    let mut c: usize = 0;
+    while c < limit {
+        let mark = map[c];
+        put_marked(&mut out[..], at, c, mark);
+        at += weight(mark);
+        c += 1;
+    }
+}
