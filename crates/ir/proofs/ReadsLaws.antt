@@ -8,15 +8,17 @@ use Prim.Native.Nat.{ℕ, _+_, _<_, _≤_}
 use native.Mathlib.Nat.{zero-add}
 use native.Mathlib.Omega.{arith}
 use lib.Dec.{eqb, lit≤}
-use lib.ListN.{length, getD, set, length-set}
+use lib.ListN.{length, getD, set, length-set, replicate, getD-replicate}
 use lib.Seq.{getD-set-same, getD-set-other, sets, length-sets}
-use borrow.Author.Tests.{eqb-true, eqb-false}
+use borrow.Author.Tests.{eqb-true, eqb-false, lt-ltb, le-ltb}
 use Rattle.laws.proofs.Cases.{by-test}
-use Rattle.laws.proofs.Folds.{none-some, any-start, any-more, all-start, all-more, all-count, all-grows}
+use Rattle.laws.proofs.Folds.{none-some, any-start, any-more, all-start, all-more, all-count, all-grows, all-same}
 use Rattle.laws.proofs.Parts.{sets-append}
 use Rattle.laws.specs.Folds.{anyBelow, allBelow}
-use Rattle.ir.specs.Marks.{markedBy, Marked}
-use Rattle.ir.specs.Reads.{varOf, readsNext, columnAt, readsColumn}
+use Rattle.ir.specs.declared.reads.Columns.the-variants.{Listed, Refused}
+use Rattle.ir.specs.declared.refusal.Refusal.the-variants.{ShortOutput}
+use Rattle.ir.specs.Marks.{markedBy, Marked, isMarked, Listing}
+use Rattle.ir.specs.Reads.{varOf, readsNext, columnAt, readsColumn, columnsRead}
 use Rattle.ir.specs.Words.{Node, nodeAt, bit}
 
 -- no column lies further up
@@ -108,3 +110,29 @@ module _ (t : ℕ → Bool) (old : List ℕ) where
   -- a room for all columns below a limit has the next place
   pub put-room : {c at : ℕ} {new : List ℕ} (limit : ℕ) → Put c at new → c < limit → length (allBelow t limit) ≤ length old → at + bit (t c) ≤ length old
   put-room {c} limit p l h = let g : c + 1 ≤ limit = omega arith in omega (arith, all-grows t g, all-count t c, p .next)
+
+-- ---- from the marks to the columns
+
+mark-is : (b : Bool) → eqb (cond b 1 0) 1 ≡ b
+mark-is true = refl
+mark-is false = refl
+
+-- a map of k places that was all 0 before the pass
+module _ (nodes : List ℕ) (n width k : ℕ) (fits : width + 65536 ≤ k) (map : List ℕ) (m : Marked nodes n width (replicate k 0) map) where
+  pub marks-are-columns : allBelow (isMarked map) (width + 65536) ≡ columnsRead nodes n width
+  unfolding columnsRead
+  marks-are-columns =
+      all-same (isMarked map) (λ c. anyBelow (readsColumn nodes width c) n) (width + 65536)
+      λ c l. rw (m .place c, getD-replicate {A = ℕ} k c 0 0 (omega arith)) (mark-is (anyBelow (readsColumn nodes width c) n))
+
+  module _ (old : List ℕ) (count : ℕ) (e : count ≡ length (allBelow (isMarked map) (width + 65536))) where
+    count-is : count ≡ length (columnsRead nodes n width)
+    count-is = e ∙ ap length marks-are-columns
+
+    pub listing-short : length old < count → Listing (columnsRead nodes n width) old old (Refused ShortOutput)
+    listing-short h = let t = lt-ltb _ _ (rw count-is at h) in record { said = rw t; words = rw t }
+
+    pub listing-done : (new : List ℕ) → count ≤ length old → new ≡ sets old 0 (allBelow (isMarked map) (width + 65536)) → Listing (columnsRead nodes n width) old new (Listed count)
+    listing-done new h q =
+        let t = le-ltb _ _ (rw count-is at h) in
+        record { said = rw (t, count-is); words = rw t (rw marks-are-columns at q) }

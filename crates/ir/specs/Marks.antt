@@ -1,13 +1,16 @@
 -- How the columns are found: a map of marks, with a place for each column, that is made in one pass over the nodes.
 -- Assumes nothing.
 use mathlib.Core.Bool.{Bool, cond}
-use mathlib.Core.List.{List}
+use mathlib.Core.List.{List, [], _∷_}
 use mathlib.Core.Path.{_≡_}
 use Prim.Native.Nat.{ℕ}
-use lib.Dec.{eqb}
+use lib.Dec.{eqb, ltb}
 use lib.ListN.{length, getD, set}
+use lib.Seq.{sets}
 use Rattle.laws.specs.Folds.{anyBelow}
-use Rattle.ir.specs.Reads.{readsNext, columnAt, readsColumn}
+use Rattle.ir.specs.declared.reads.Columns.{Columns}
+use Rattle.ir.specs.Reads.{readsNext, columnAt, readsColumn, saidOfColumns, onDone}
+use Rattle.ir.specs.Refusals.{Said, row, first, gives}
 use Rattle.ir.specs.Words.{Node}
 
 -- the map after a node
@@ -22,3 +25,11 @@ pub record Marked (nodes : List ℕ) (n width : ℕ) (old new : List ℕ) : Type
 -- whether column c is marked
 abbrev pub isMarked : List ℕ → ℕ → Bool
 isMarked map c = eqb (getD map c 0) 1
+
+-- what is said once the program is known to be well-formed
+abbrev pub listedSaid : List ℕ → ℕ → Said
+listedSaid columns room = first (row (ltb room (length columns)) 10 ∷ []) (gives (length columns ∷ []))
+
+pub record Listing (columns old new : List ℕ) (answer : Columns) : Type 0 where
+  pub said : saidOfColumns answer ≡ listedSaid columns (length old)
+  pub words : new ≡ onDone (listedSaid columns (length old)) (sets old 0 columns) old

@@ -11,14 +11,17 @@ ghost use lib.Seq.{sets};
 ghost use Rattle.laws.specs.Folds.{allBelow};
 ghost use Rattle.ir.specs.Words.{nodeAt, bit};
 ghost use Rattle.ir.specs.Refusals.{placeOf};
-ghost use Rattle.ir.specs.Reads.{readsNext, columnAt};
-ghost use Rattle.ir.specs.Marks.{markedBy, Marked, isMarked};
+ghost use Rattle.ir.specs.Reads.{readsNext, columnAt, columnsRead};
+ghost use Rattle.ir.specs.Marks.{markedBy, Marked, isMarked, Listing};
 use super::node::unpack_var;
 use super::node::OP_VAR;
 use super::node::Packed;
 use super::node::Var;
 use super::refusal::Place;
 use super::refusal::Refusal;
+
+// A place for each column: main and aux columns are at most 65,536 each.
+const PLACES: usize = 131072;
 
 // What the map holds for a column that is read.
 const MARK: u8 = 1;
@@ -128,4 +131,21 @@ fn put_columns(out: &mut [u32], map: &[u8], limit: usize)
         at += weight(mark);
         c += 1;
     }
+}
+
+// A map of its own, so that time grows with nodes plus columns; counted before it is written, so that a refusal
+// writes nothing.
+fn list_columns(nodes: &[u32], n: usize, width: usize, out: &mut [u32]) -> Columns
+    requires { ⌜ (4 * n ≤ length (now nodes)) × (width ≤ 65536) ⌝ }
+    ensures { λ r. ⌜ Listing (columnsRead (now (nodes .entry)) n width) (now (out .entry)) (now (out .exit)) r ⌝ }
+{
+    let mut map = [0u8; PLACES];
+    mark_reads(&mut map[..], nodes, n, width);
+    let limit = width + 65536;
+    let count = count_marks(&map[..], limit);
+    if out.len() < count {
+        return Columns::Refused(Refusal::ShortOutput);
+    }
+    put_columns(&mut out[..], &map[..], limit);
+    Columns::Listed { count }
 }
