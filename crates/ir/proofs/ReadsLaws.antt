@@ -15,10 +15,14 @@ use Rattle.laws.proofs.Cases.{by-test}
 use Rattle.laws.proofs.Folds.{none-some, any-start, any-more, all-start, all-more, all-count, all-grows, all-same}
 use Rattle.laws.proofs.Parts.{sets-append}
 use Rattle.laws.specs.Folds.{anyBelow, allBelow}
+use Rattle.ir.specs.declared.reads.Columns.{Columns}
 use Rattle.ir.specs.declared.reads.Columns.the-variants.{Listed, Refused}
+use Rattle.ir.specs.declared.refusal.Refusal.{Refusal}
 use Rattle.ir.specs.declared.refusal.Refusal.the-variants.{ShortOutput}
-use Rattle.ir.specs.Marks.{markedBy, Marked, isMarked, Listing}
-use Rattle.ir.specs.Reads.{varOf, readsNext, columnAt, readsColumn, columnsRead}
+use Rattle.ir.specs.Marks.{markedBy, Marked, isMarked, listedSaid, Listing}
+use Rattle.ir.specs.Program.{Program}
+use Rattle.ir.specs.Reads.{varOf, readsNext, columnAt, readsColumn, columnsRead, columnsOf, readsSaid, ReadsAnswer}
+use Rattle.ir.specs.Refusals.{saidOf}
 use Rattle.ir.specs.Words.{Node, nodeAt, bit}
 
 -- no column lies further up
@@ -136,3 +140,12 @@ module _ (nodes : List ℕ) (n width k : ℕ) (fits : width + 65536 ≤ k) (map 
     listing-done new h q =
         let t = le-ltb _ _ (rw count-is at h) in
         record { said = rw (t, count-is); words = rw t (rw marks-are-columns at q) }
+
+-- ---- the answer
+
+module _ (p : Program) (width : ℕ) (old : List ℕ) where
+  pub answer-refused : (r : Refusal) → eqb (saidOf r .number) 0 ≡ false → readsSaid p width (length old) ≡ saidOf r → ReadsAnswer p width old old (Refused r)
+  answer-refused r z e = record { said = sym e; written = rw (e, z) }
+
+  pub answer-listed : {new : List ℕ} {answer : Columns} → readsSaid p width (length old) ≡ listedSaid (columnsOf p width) (length old) → Listing (columnsOf p width) old new answer → ReadsAnswer p width old new answer
+  answer-listed e l = record { said = l .said ∙ sym e; written = rw e (l .words) }

@@ -11,16 +11,24 @@ ghost use lib.Seq.{sets};
 ghost use Rattle.laws.specs.Folds.{allBelow};
 ghost use Rattle.ir.specs.Words.{nodeAt, bit};
 ghost use Rattle.ir.specs.Refusals.{placeOf};
-ghost use Rattle.ir.specs.Reads.{readsNext, columnAt, columnsRead};
+ghost use Rattle.ir.specs.Reads.{readsNext, columnAt, columnsRead, ReadsAnswer};
 ghost use Rattle.ir.specs.Marks.{markedBy, Marked, isMarked, Listing};
 use super::node::unpack_var;
 use super::node::OP_VAR;
 use super::node::Packed;
 use super::node::Var;
+use super::program::ill_formed;
+use super::program::short_tables;
+use super::program::too_many_nodes;
+use super::program::too_many_roots;
+use super::program::Counts;
 use super::refusal::Place;
 use super::refusal::Refusal;
 
-// A place for each column: main and aux columns are at most 65,536 each.
+// The most columns of a main or an aux trace.
+const MOST_COLUMNS: usize = 65536;
+
+// A place in the map for each column of both.
 const PLACES: usize = 131072;
 
 // What the map holds for a column that is read.
@@ -141,11 +149,42 @@ fn list_columns(nodes: &[u32], n: usize, width: usize, out: &mut [u32]) -> Colum
 {
     let mut map = [0u8; PLACES];
     mark_reads(&mut map[..], nodes, n, width);
-    let limit = width + 65536;
+    let limit = width + MOST_COLUMNS;
     let count = count_marks(&map[..], limit);
     if out.len() < count {
         return Columns::Refused(Refusal::ShortOutput);
     }
     put_columns(&mut out[..], &map[..], limit);
     Columns::Listed { count }
+}
+
+// The columns that some Var node reads at a later row, dead nodes included, ascending and with no repeats: 8, 9, 2, 1,
+// 7, 10.
+pub fn next_row_trace_reads(
+    c: Counts,
+    width: usize,
+    nodes: &[u32],
+    bases: &[u64],
+    exts: &[u64],
+    roots: &[u32],
+    out: &mut [u32],
+) -> Columns
+    ensures { λ r. ⌜ ReadsAnswer (record { counts = c; nodes = now (nodes .entry); bases = now (bases .entry); exts = now (exts .entry); roots = now (roots .entry) }) width (now (out .entry)) (now (out .exit)) r ⌝ }
+{
+    if too_many_nodes(c) {
+        return Columns::Refused(Refusal::TooManyNodes);
+    }
+    if too_many_roots(c) {
+        return Columns::Refused(Refusal::TooManyRoots);
+    }
+    if MOST_COLUMNS < width {
+        return Columns::Refused(Refusal::OverLimit);
+    }
+    if short_tables(c, nodes.len(), bases.len(), exts.len(), roots.len()) {
+        return Columns::Refused(Refusal::ShortMemory);
+    }
+    if let Place::At(place) = ill_formed(c, nodes, roots) {
+        return Columns::Refused(Refusal::IllFormed { place });
+    }
+    list_columns(nodes, c.nodes, width, &mut out[..])
 }
