@@ -2,4 +2,5 @@
 pub mod BytesLaws
 pub mod ProgramLaws
 pub mod ReadsLaws
+pub mod Single
 pub mod VarLaws

@@ -1,6 +1,6 @@
 -- Laws of the columns that a program reads at a later row, and of the map that finds them.
 -- Assumes nothing.
-use mathlib.Core.Bool.{Bool, true, false, cond, _&&_, _||_, or-true, or-false}
+use mathlib.Core.Bool.{Bool, true, false, cond, _&&_, _||_, and-false, or-true, or-false}
 use mathlib.Core.List.{List, [], _∷_}
 use mathlib.Core.Option.{none, some}
 use mathlib.Core.Path.{_≡_, refl, sym, ap, _∙_}
@@ -10,9 +10,9 @@ use native.Mathlib.Omega.{arith}
 use lib.Dec.{eqb, lit≤}
 use lib.ListN.{length, getD, set, length-set, replicate, getD-replicate}
 use lib.Seq.{getD-set-same, getD-set-other, sets, length-sets}
-use borrow.Author.Tests.{eqb-true, eqb-false, lt-ltb, le-ltb}
+use borrow.Author.Tests.{eqb-true, eqb-false, ne-eqb, lt-ltb, le-ltb}
 use Rattle.laws.proofs.Cases.{by-test}
-use Rattle.laws.proofs.Folds.{none-some, any-start, any-more, all-start, all-more, all-count, all-grows, all-same}
+use Rattle.laws.proofs.Folds.{none-some, any-none, any-start, any-more, all-start, all-more, all-count, all-grows, all-same}
 use Rattle.laws.proofs.Parts.{sets-append}
 use Rattle.laws.specs.Folds.{anyBelow, allBelow}
 use Rattle.ir.specs.declared.reads.Columns.{Columns}
@@ -25,11 +25,19 @@ use Rattle.ir.specs.Reads.{varOf, readsNext, columnAt, readsColumn, colu
 use Rattle.ir.specs.Refusals.{saidOf}
 use Rattle.ir.specs.Words.{Node, nodeAt, bit}
 
--- no column lies further up
 pub column-below : (width : ℕ) (w : Node) → columnAt width w < width + 65536
 unfolding columnAt
 column-below width w =
     by-test (varOf w .main) (columnAt width w < width + 65536) (λ t. rw t (omega arith)) λ t. rw t (omega arith)
+
+-- no column is read that the list leaves out: none lies further up than it goes
+pub none-past : (nodes : List ℕ) (n width c : ℕ) → width + 65536 ≤ c → anyBelow (readsColumn nodes width c) n ≡ false
+unfolding readsColumn
+none-past nodes n width c h =
+    any-none (readsColumn nodes width c) n
+    λ i l.
+    let w = nodeAt nodes i in
+    rw (ne-eqb (columnAt width w) c (λ e. omega (arith, column-below width w)), and-false (readsNext w))
 
 -- ---- one node
 

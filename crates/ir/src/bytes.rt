@@ -6,6 +6,7 @@ ghost use lib.ListN.{length, take, drop};
 ghost use lib.Seq.{sets};
 ghost use Rattle.ir.specs.Bytes.{leValue, leBytes};
 
+// Four bytes, the lowest first.
 fn joined_bytes(b0: u8, b1: u8, b2: u8, b3: u8) -> u32
     ensures { λ r. ⌜ r ≡ leValue (b0 ∷ b1 ∷ b2 ∷ b3 ∷ []) ⌝ }
 {

@@ -13,15 +13,15 @@ ghost use Rattle.ir.specs.Words.{nodeAt, bit};
 ghost use Rattle.ir.specs.Refusals.{placeOf};
 ghost use Rattle.ir.specs.Reads.{readsNext, columnAt, columnsRead, ReadsAnswer};
 ghost use Rattle.ir.specs.Marks.{markedBy, Marked, isMarked, Listing};
-use super::node::unpack_var;
 use super::node::OP_VAR;
 use super::node::Packed;
 use super::node::Var;
+use super::node::unpack_var;
+use super::program::Counts;
 use super::program::ill_formed;
 use super::program::short_tables;
 use super::program::too_many_nodes;
 use super::program::too_many_roots;
-use super::program::Counts;
 use super::refusal::Place;
 use super::refusal::Refusal;
 
@@ -50,6 +50,7 @@ fn is_later(v: Var) -> bool
     1 <= v.row
 }
 
+// Aux columns come after the main ones.
 fn column_in(v: Var, width: usize) -> usize
     requires { ⌜ width ≤ 65536 ⌝ }
     ensures { λ r. ⌜ r ≡ cond (v .main) (v .col) (width + v .col) ⌝ }
@@ -79,6 +80,7 @@ fn next_read(nodes: &[u32], i: usize, width: usize) -> Place
     Place::Nowhere
 }
 
+// A column that is marked again stays as it is: repeats fall together.
 fn mark_read(map: &mut [u8], nodes: &[u32], i: usize, width: usize)
     requires { ⌜ (width + 65536 ≤ length (now map)) × (4 * i + 4 ≤ length (now nodes)) × (width ≤ 65536) ⌝ }
     ensures { λ _. ⌜ now (map .exit) ≡ markedBy width (nodeAt (now (nodes .entry)) i) (now (map .entry)) ⌝ }
@@ -99,6 +101,7 @@ fn mark_reads(map: &mut [u8], nodes: &[u32], n: usize, width: usize)
     }
 }
 
+// What a place of the map adds to the number of columns.
 fn weight(mark: u8) -> usize
     ensures { λ r. ⌜ r ≡ bit (eqb mark 1) ⌝ }
 {
@@ -118,6 +121,7 @@ fn count_marks(map: &[u8], limit: usize) -> usize
     count
 }
 
+// Apart from the loop that calls it, which then has no branch.
 fn put_marked(out: &mut [u32], at: usize, column: usize, mark: u8)
     requires { ⌜ (at + bit (eqb mark 1) ≤ length (now out)) × (column < 131072) ⌝ }
     ensures { λ _. ⌜ now (out .exit) ≡ sets (now (out .entry)) at (cond (eqb mark 1) (column ∷ []) []) ⌝ }
@@ -127,6 +131,7 @@ fn put_marked(out: &mut [u32], at: usize, column: usize, mark: u8)
     }
 }
 
+// The map is walked upwards, so the columns ascend.
 fn put_columns(out: &mut [u32], map: &[u8], limit: usize)
     requires { ⌜ (limit ≤ length (now map)) × (limit ≤ 131072) × (length (allBelow (isMarked (now map)) limit) ≤ length (now out)) ⌝ }
     ensures { λ _. ⌜ now (out .exit) ≡ sets (now (out .entry)) 0 (allBelow (isMarked (now (map .entry))) limit) ⌝ }

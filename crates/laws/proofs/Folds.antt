@@ -1,7 +1,7 @@
 -- Laws of the folds over the numbers below n.
 -- Assumes nothing.
 use mathlib.Core.Bool.{Bool, true, false, cond, _||_}
-use mathlib.Core.List.{List, [], _∷_, _++_}
+use mathlib.Core.List.{[], _∷_, _++_}
 use mathlib.Core.Logic.{⊎-elim}
 use mathlib.Core.Option.{Option, none, some}
 use mathlib.Core.Path.{_≡_, refl, sym, ap, _∙_}
@@ -73,6 +73,11 @@ module _ (t : ℕ → Bool) where
   pub any-more : (i : ℕ) → anyBelow t (i + 1) ≡ (anyBelow t i || t i)
   unfolding anyBelow
   any-more i = rw (add-one i)
+
+  pub any-none : (n : ℕ) → ((i : ℕ) → i < n → t i ≡ false) → anyBelow t n ≡ false
+  unfolding anyBelow
+  any-none zero h = refl
+  any-none (suc n) h = rw (any-none n (λ i l. h i (omega arith)), h n (omega arith))
 
   pub all-start : allBelow t 0 ≡ []
   unfolding allBelow

@@ -1,6 +1,5 @@
 -- `column_in` meets its contract.
 -- Assumes nothing.
-use borrow.Author.Tests.{le-leb, lt-leb}
 use borrow.Author.Needs.{needs}
 use Rattle.ir.proofs.reads.column_in.Statement.{statement}
 use Rattle.ir.proofs.reads.column_in.Tie as tie

@@ -1,11 +1,10 @@
 -- `count_marks` meets its contract: the marks below c.
 -- Assumes nothing.
 use borrow.Author.Needs.{needs}
-use mathlib.Core.Path.{_≡_, sym}
+use mathlib.Core.Path.{_≡_}
 use Prim.Native.Nat.{_≤_, _-_}
 use native.Mathlib.Omega.{arith}
-use lib.Dec.{eqb}
-use lib.ListN.{length, getD}
+use lib.ListN.{length}
 use Rattle.laws.specs.Folds.{allBelow}
 use Rattle.laws.proofs.Folds.{all-start, all-count}
 use Rattle.ir.specs.Marks.{isMarked}

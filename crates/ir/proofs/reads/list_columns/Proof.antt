@@ -1,8 +1,5 @@
 -- `list_columns` meets its contract: the marks are the columns.
 -- Assumes nothing.
-use lib.ListN.{length}
-use Prim.Native.Nat.{ℕ, _≤_}
-use mathlib.Core.Path.{sym, subst}
 use native.Mathlib.Omega.{arith}
 use Rattle.ir.proofs.ReadsLaws.{listing-short, listing-done}
 use borrow.Author.Needs.{needs}

@@ -1,6 +1,5 @@
 -- `mark_read` meets its contract.
 -- Assumes nothing.
-use mathlib.Core.Path.{sym}
 use native.Mathlib.Omega.{arith}
 use Rattle.ir.proofs.ReadsLaws.{found-below, marked-found, marked-none}
 use borrow.Author.Needs.{needs}
