@@ -1,5 +1,8 @@
 -- What the program's contracts cite.
+pub mod Bytes
+pub mod Marks
 pub mod Program
+pub mod Reads
 pub mod Refusals
 pub mod Shape
 pub mod WellFormed

@@ -1,15 +1,17 @@
 -- Laws of the folds over the numbers below n.
 -- Assumes nothing.
-use mathlib.Core.Bool.{Bool, true, false, cond}
+use mathlib.Core.Bool.{Bool, true, false, cond, _||_}
+use mathlib.Core.List.{[], _∷_, _++_}
 use mathlib.Core.Logic.{⊎-elim}
 use mathlib.Core.Option.{Option, none, some}
-use mathlib.Core.Path.{_≡_, refl, sym, _∙_}
+use mathlib.Core.Path.{_≡_, refl, sym, ap, _∙_}
 use Prim.Native.Nat.{ℕ, zero, suc, _+_, _<_, _≤_}
 use native.Mathlib.Decide.{le-ind}
-use native.Mathlib.Nat.{eq-or-lt-of-le}
+use native.Mathlib.Nat.{eq-or-lt-of-le, le-refl}
 use native.Mathlib.Numerals.{add-one}
 use native.Mathlib.Omega.{arith}
-use Rattle.laws.specs.Folds.{lowest, orElse}
+use lib.ListN.{length, length-append}
+use Rattle.laws.specs.Folds.{anyBelow, lowest, orElse, allBelow}
 
 -- no place is some place
 pub none-some : {P : Type 0} {A : Type 0} {o : Option A} {x : A} → o ≡ none → o ≡ some x → P
@@ -26,6 +28,10 @@ or-none-right (some i) b h = none-some h refl
 not-here : (b : Bool) (n : ℕ) → cond b (some n) none ≡ none → b ≡ false
 not-here true n h = none-some h refl
 not-here false n h = refl
+
+one-or-none : (b : Bool) (i : ℕ) → length (cond b (i ∷ []) []) ≡ cond b 1 0
+one-or-none true i = refl
+one-or-none false i = refl
 
 module _ (t : ℕ → Bool) where
   pub lowest-start : lowest t 0 ≡ none
@@ -57,3 +63,40 @@ module _ (t : ℕ → Bool) where
   unfolding lowest
   none-lowest zero h = refl
   none-lowest (suc n) h = rw (none-lowest n (λ i l. h i (omega arith)), h n (omega arith))
+
+  -- ---- whether it holds at one of them, and where
+
+  pub any-start : anyBelow t 0 ≡ false
+  unfolding anyBelow
+  any-start = refl
+
+  pub any-more : (i : ℕ) → anyBelow t (i + 1) ≡ (anyBelow t i || t i)
+  unfolding anyBelow
+  any-more i = rw (add-one i)
+
+  pub any-none : (n : ℕ) → ((i : ℕ) → i < n → t i ≡ false) → anyBelow t n ≡ false
+  unfolding anyBelow
+  any-none zero h = refl
+  any-none (suc n) h = rw (any-none n (λ i l. h i (omega arith)), h n (omega arith))
+
+  pub all-start : allBelow t 0 ≡ []
+  unfolding allBelow
+  all-start = refl
+
+  pub all-more : (i : ℕ) → allBelow t (i + 1) ≡ allBelow t i ++ cond (t i) (i ∷ []) []
+  unfolding allBelow
+  all-more i = rw (add-one i)
+
+  -- one more where it holds
+  pub all-count : (i : ℕ) → length (allBelow t (i + 1)) ≡ length (allBelow t i) + cond (t i) 1 0
+  all-count i = rw (all-more i, length-append (allBelow t i) (cond (t i) (i ∷ []) [])) (ap (λ (k : ℕ). length (allBelow t i) + k) (one-or-none (t i) i))
+
+  pub all-grows : {m n : ℕ} → m ≤ n → length (allBelow t m) ≤ length (allBelow t n)
+  unfolding allBelow
+  all-grows {m} {n} l = le-ind (λ k. length (allBelow t m) ≤ length (allBelow t k)) (le-refl _) (λ k (q : m ≤ k) e. simp length-append (omega arith)) n l
+
+-- tests that agree below n list the same places
+pub all-same : (s t : ℕ → Bool) (n : ℕ) → ((i : ℕ) → i < n → s i ≡ t i) → allBelow s n ≡ allBelow t n
+unfolding allBelow
+all-same s t zero h = refl
+all-same s t (suc n) h = rw (all-same s t n (λ i l. h i (omega arith)), h n (omega arith))

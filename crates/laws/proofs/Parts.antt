@@ -4,6 +4,7 @@ use mathlib.Core.Path.{_≡_, refl, sym, ap, _∙_}
 use mathlib.Core.List.{List, [], _∷_, _++_, append-assoc}
 use Prim.Native.Nat.{ℕ, suc, _+_, _-_, _<_, _≤_}
 use native.Mathlib.Numerals.{add-one}
+use native.Mathlib.Nat.{add-zero}
 use native.Mathlib.Omega.{arith}
 use lib.ListN.{length, getD, set, take, drop}
 use lib.Seq.{drop-cons, sets, sets-eq, length-take-le, take-at, drop-at, drop-set-add, drop-set-lt, take-set-le}
@@ -52,3 +53,8 @@ sets-after (a ∷ ws) l i k h = sets-after ws (set l i a) (suc i) k (omega arith
 -- one word more in front
 pub sets-more : (l : List ℕ) (i a : ℕ) (ws : List ℕ) → sets (set l i a) (i + 1) ws ≡ sets l i (a ∷ ws)
 sets-more l i a ws = ap (λ (n : ℕ). sets (set l i a) n ws) (add-one i)
+
+-- words stored in two runs, the second where the first ends
+pub sets-append : (vs ws l : List ℕ) (i : ℕ) → sets l i (vs ++ ws) ≡ sets (sets l i vs) (i + length vs) ws
+sets-append [] ws l i = rw (add-zero i)
+sets-append (a ∷ vs) ws l i = let e : i + suc (length vs) ≡ suc i + length vs = omega arith in rw e (sets-append vs ws (set l i a) (suc i))

@@ -1,0 +1,67 @@
+-- Each call's promise leaves one answer and one memory.
+-- Assumes nothing.
+use mathlib.Core.Bool.{false, cond}
+use mathlib.Core.List.{List}
+use mathlib.Core.Path.{_≡_, refl, sym, ap, _∙_}
+use Prim.Native.Nat.{ℕ}
+use lib.Dec.{eqb}
+use lib.ListN.{getD}
+use Rattle.ir.specs.declared.reads.Columns.{Columns}
+use Rattle.ir.specs.declared.reads.Columns.the-variants.{Listed, Refused}
+use Rattle.ir.specs.declared.refusal.Refusal.{Refusal}
+use Rattle.ir.specs.declared.refusal.Refusal.the-variants.{ShortMemory, OverLimit, ForeignHandle, NodesFull, ConstantsFull, NoConstraint, IllFormed, TooManyNodes, TooManyRoots, ShortOutput, IllegalBlob, ExtensionRoot, LeafOutside, ShortEvals, BadFraming}
+use Rattle.ir.specs.Program.{Program}
+use Rattle.ir.specs.Reads.{saidOfColumns, ReadsAnswer}
+use Rattle.ir.specs.Refusals.{Said, saidOf}
+
+-- ---- a case is known by what it says
+
+-- the refusal with a number and a place
+abbrev refusalOf : ℕ → ℕ → Refusal
+refusalOf n at =
+    cond (eqb n 1) ShortMemory
+    (cond (eqb n 2) OverLimit
+    (cond (eqb n 3) ForeignHandle
+    (cond (eqb n 4) NodesFull
+    (cond (eqb n 5) ConstantsFull
+    (cond (eqb n 6) NoConstraint
+    (cond (eqb n 7) (IllFormed at)
+    (cond (eqb n 8) TooManyNodes
+    (cond (eqb n 9) TooManyRoots
+    (cond (eqb n 10) ShortOutput
+    (cond (eqb n 11) (IllegalBlob at)
+    (cond (eqb n 12) (ExtensionRoot at) (cond (eqb n 13) (LeafOutside at) (cond (eqb n 14) ShortEvals BadFraming)))))))))))))
+
+-- a refusal's number is not 0, and with the place it gives the refusal back
+known : (r : Refusal) → (eqb (saidOf r .number) 0 ≡ false) × (refusalOf (saidOf r .number) (saidOf r .place) ≡ r)
+known ShortMemory = (refl, refl)
+known OverLimit = (refl, refl)
+known ForeignHandle = (refl, refl)
+known NodesFull = (refl, refl)
+known ConstantsFull = (refl, refl)
+known NoConstraint = (refl, refl)
+known (IllFormed at) = (refl, refl)
+known TooManyNodes = (refl, refl)
+known TooManyRoots = (refl, refl)
+known ShortOutput = (refl, refl)
+known (IllegalBlob at) = (refl, refl)
+known (ExtensionRoot at) = (refl, refl)
+known (LeafOutside at) = (refl, refl)
+known ShortEvals = (refl, refl)
+known BadFraming = (refl, refl)
+
+-- ---- next_row_trace_reads
+
+abbrev columnsSaid : Said → Columns
+columnsSaid s = cond (eqb (s .number) 0) (Listed (getD (s .values) 0 0)) (Refused (refusalOf (s .number) (s .place)))
+
+columns-back : (a : Columns) → columnsSaid (saidOfColumns a) ≡ a
+columns-back (Listed count) = refl
+columns-back (Refused r) = rw (known r .0, known r .1)
+
+pub columns-single : (a a′ : Columns) → saidOfColumns a ≡ saidOfColumns a′ → a ≡ a′
+columns-single a a′ e = sym (columns-back a) ∙ ap columnsSaid e ∙ columns-back a′
+
+pub next-row-trace-reads-single : {p : Program} {width : ℕ} {old new new′ : List ℕ} {a a′ : Columns} → ReadsAnswer p width old new a → ReadsAnswer p width old new′ a′ → (a ≡ a′) × (new ≡ new′)
+next-row-trace-reads-single {p} {width} {old} {new} {new′} {a} {a′} f g =
+    (columns-single a a′ (f .said ∙ sym (g .said)), f .written ∙ sym (g .written))
