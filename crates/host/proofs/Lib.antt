@@ -1,3 +1,4 @@
 -- Lemmas of the calls.
 pub mod FieldCallLaws
 pub mod Single
+pub mod ProgramCallLaws

@@ -1,0 +1,19 @@
+-- `cir_check_program` meets its contract: it is the check's.
+-- Assumes nothing.
+use Rattle.host.specs.ProgramCalls.{answerOf}
+use mathlib.Core.Path.{ap, _∙_}
+use borrow.Author.Needs.{needs}
+use Rattle.host.proofs.program_calls.cir_check_program.Statement.{statement}
+use Rattle.host.proofs.program_calls.cir_check_program.Tie as tie
+
+check-program-requires : tie.Need-check-program-requires
+check-program-requires c κs = search needs
+
+coded-outcome-requires : tie.Need-coded-outcome-requires
+coded-outcome-requires c κs = search needs
+
+returns : tie.Need-returns
+returns c = c .coded-outcome .ensures ∙ ap answerOf (c .before .check-program .ensures)
+
+pub cir-check-program-spec : {M : Type 1} → statement M
+cir-check-program-spec = tie.close (tie.spec check-program-requires coded-outcome-requires returns)

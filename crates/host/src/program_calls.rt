@@ -1,0 +1,291 @@
+// Programs as calls, on numbers and word slices. An answer is one u64: the number of document 01's table, and 256
+// times the place that it names.
+ghost use mathlib.Core.List.{[], _∷_};
+ghost use mathlib.Core.Path.{_≡_};
+ghost use Prim.Native.Nat.{_+_, _*_, _%_};
+ghost use Rattle.ir.specs.Refusals.{saidOf, saidOfOutcome};
+ghost use Rattle.ir.specs.Program.{checked};
+ghost use Rattle.ir.specs.Reads.{ReadsAnswer};
+ghost use Rattle.interp.specs.Frame.{lent, rowLent};
+ghost use Rattle.interp.specs.Evaluation.{ProverAnswer, VerifierAnswer, RowAnswer};
+ghost use Rattle.host.specs.ProgramCalls.{answerOf, counts, shape, Called, CalledBase, CalledReads};
+use field::extensions_goldilocks::Ext;
+use interp::interp::Evaluated;
+use interp::interp::eval_program;
+use interp::interp::eval_program_base;
+use interp::interp::eval_program_verifier;
+use ir::frame::Shape;
+use ir::program::Counts;
+use ir::program::check_program;
+use ir::reads::Columns;
+use ir::reads::next_row_trace_reads;
+use ir::refusal::Outcome;
+use ir::refusal::Refusal;
+
+// A place fits: no table has more than 2^32 entries.
+fn coded(number: u8, place: usize) -> u64
+    ensures { λ r. ⌜ r ≡ number + 256 * (place % 281474976710656) ⌝ }
+{
+    (number as u64) + 256 * ((place % 281474976710656) as u64)
+}
+
+fn coded_refusal(why: Refusal) -> u64
+    ensures { λ r. ⌜ r ≡ answerOf (saidOf why) ⌝ }
+{
+    match why {
+        Refusal::ShortMemory => coded(1, 0),
+        Refusal::OverLimit => coded(2, 0),
+        Refusal::ForeignHandle => coded(3, 0),
+        Refusal::NodesFull => coded(4, 0),
+        Refusal::ConstantsFull => coded(5, 0),
+        Refusal::NoConstraint => coded(6, 0),
+        Refusal::IllFormed { place } => coded(7, place),
+        Refusal::TooManyNodes => coded(8, 0),
+        Refusal::TooManyRoots => coded(9, 0),
+        Refusal::ShortOutput => coded(10, 0),
+        Refusal::IllegalBlob { place } => coded(11, place),
+        Refusal::ExtensionRoot { place } => coded(12, place),
+        Refusal::LeafOutside { place } => coded(13, place),
+        Refusal::ShortEvals => coded(14, 0),
+        Refusal::BadFraming => coded(15, 0),
+    }
+}
+
+fn coded_outcome(o: Outcome) -> u64
+    ensures { λ r. ⌜ r ≡ answerOf (saidOfOutcome o) ⌝ }
+{
+    match o {
+        Outcome::Done => 0,
+        Outcome::Refused(why) => coded_refusal(why),
+    }
+}
+
+#[no_mangle]
+pub extern "C" fn cir_check_program(
+    n: usize,
+    b: usize,
+    x: usize,
+    r: usize,
+    leading: usize,
+    nodes: &[u32],
+    bases: &[u64],
+    exts: &[u64],
+    roots: &[u32],
+) -> u64
+    ensures { λ a. ⌜ a ≡ answerOf (checked (record { counts = counts n b x r leading; nodes = now (nodes .entry); bases = now (bases .entry); exts = now (exts .entry); roots = now (roots .entry) })) ⌝ }
+{
+    let c = Counts {
+        nodes: n,
+        bases: b,
+        exts: x,
+        roots: r,
+        num_base: leading,
+    };
+    coded_outcome(check_program(c, nodes, bases, exts, roots))
+}
+
+#[no_mangle]
+pub extern "C" fn cir_eval_program(
+    n: usize,
+    b: usize,
+    x: usize,
+    r: usize,
+    leading: usize,
+    steps: usize,
+    width: usize,
+    auxes: usize,
+    rap: usize,
+    powers: usize,
+    o0: u64,
+    o1: u64,
+    o2: u64,
+    nodes: &[u32],
+    bases: &[u64],
+    exts: &[u64],
+    roots: &[u32],
+    main: &[u64],
+    aux: &[u64],
+    challenges: &[u64],
+    alphas: &[u64],
+    base: &mut [u64],
+    ext: &mut [u64],
+    room: &mut [u64],
+) -> u64
+    ensures { λ a. ⌜ Called (λ o. ProverAnswer (counts n b x r leading) (shape steps width auxes rap powers) (now (nodes .entry)) (now (roots .entry)) (lent (now (bases .entry)) (now (exts .entry)) (now (main .entry)) (now (aux .entry)) (now (challenges .entry)) (now (alphas .entry)) (o0 ∷ o1 ∷ o2 ∷ [])) o (now (base .entry)) (now (base .exit)) (now (ext .entry)) (now (ext .exit)) (now (room .entry)) (now (room .exit))) a ⌝ }
+{
+    let c = Counts {
+        nodes: n,
+        bases: b,
+        exts: x,
+        roots: r,
+        num_base: leading,
+    };
+    let s = Shape {
+        steps,
+        main: width,
+        aux: auxes,
+        challenges: rap,
+        alphas: powers,
+    };
+    let offset = Ext {
+        limbs: [o0, o1, o2],
+    };
+    let o = eval_program(
+        c,
+        s,
+        offset,
+        nodes,
+        bases,
+        exts,
+        roots,
+        main,
+        aux,
+        challenges,
+        alphas,
+        &mut base[..],
+        &mut ext[..],
+        &mut room[..],
+    );
+    coded_outcome(o)
+}
+
+#[no_mangle]
+pub extern "C" fn cir_eval_program_verifier(
+    n: usize,
+    b: usize,
+    x: usize,
+    r: usize,
+    leading: usize,
+    steps: usize,
+    width: usize,
+    auxes: usize,
+    rap: usize,
+    powers: usize,
+    o0: u64,
+    o1: u64,
+    o2: u64,
+    nodes: &[u32],
+    bases: &[u64],
+    exts: &[u64],
+    roots: &[u32],
+    main: &[u64],
+    aux: &[u64],
+    challenges: &[u64],
+    alphas: &[u64],
+    ext: &mut [u64],
+    room: &mut [u64],
+) -> u64
+    ensures { λ a. ⌜ Called (λ o. VerifierAnswer (counts n b x r leading) (shape steps width auxes rap powers) (now (nodes .entry)) (now (roots .entry)) (lent (now (bases .entry)) (now (exts .entry)) (now (main .entry)) (now (aux .entry)) (now (challenges .entry)) (now (alphas .entry)) (o0 ∷ o1 ∷ o2 ∷ [])) o (now (ext .entry)) (now (ext .exit)) (now (room .entry)) (now (room .exit))) a ⌝ }
+{
+    let c = Counts {
+        nodes: n,
+        bases: b,
+        exts: x,
+        roots: r,
+        num_base: leading,
+    };
+    let s = Shape {
+        steps,
+        main: width,
+        aux: auxes,
+        challenges: rap,
+        alphas: powers,
+    };
+    let offset = Ext {
+        limbs: [o0, o1, o2],
+    };
+    let o = eval_program_verifier(
+        c,
+        s,
+        offset,
+        nodes,
+        bases,
+        exts,
+        roots,
+        main,
+        aux,
+        challenges,
+        alphas,
+        &mut ext[..],
+        &mut room[..],
+    );
+    coded_outcome(o)
+}
+
+#[no_mangle]
+pub extern "C" fn cir_eval_program_base(
+    n: usize,
+    b: usize,
+    x: usize,
+    r: usize,
+    leading: usize,
+    width: usize,
+    asked: usize,
+    nodes: &[u32],
+    bases: &[u64],
+    exts: &[u64],
+    roots: &[u32],
+    row: &[u64],
+    room: &mut [u64],
+    value: &mut u64,
+) -> u64
+    ensures { λ a. ⌜ CalledBase (λ o. RowAnswer (counts n b x r leading) width asked (now (nodes .entry)) (now (roots .entry)) (rowLent (now (bases .entry)) (now (exts .entry)) (now (row .entry))) o (now (room .entry)) (now (room .exit))) a (now (value .entry)) (now (value .exit)) ⌝ }
+{
+    let c = Counts {
+        nodes: n,
+        bases: b,
+        exts: x,
+        roots: r,
+        num_base: leading,
+    };
+    match eval_program_base(
+        c,
+        width,
+        asked,
+        nodes,
+        bases,
+        exts,
+        roots,
+        row,
+        &mut room[..],
+    ) {
+        Evaluated::Base(v) => {
+            *value = v;
+            0
+        }
+        Evaluated::Rejected(why) => coded_refusal(why),
+    }
+}
+
+#[no_mangle]
+pub extern "C" fn cir_next_row_trace_reads(
+    n: usize,
+    b: usize,
+    x: usize,
+    r: usize,
+    leading: usize,
+    width: usize,
+    nodes: &[u32],
+    bases: &[u64],
+    exts: &[u64],
+    roots: &[u32],
+    out: &mut [u32],
+    count: &mut u64,
+) -> u64
+    ensures { λ a. ⌜ CalledReads (λ o. ReadsAnswer (record { counts = counts n b x r leading; nodes = now (nodes .entry); bases = now (bases .entry); exts = now (exts .entry); roots = now (roots .entry) }) width (now (out .entry)) (now (out .exit)) o) a (now (count .entry)) (now (count .exit)) ⌝ }
+{
+    let c = Counts {
+        nodes: n,
+        bases: b,
+        exts: x,
+        roots: r,
+        num_base: leading,
+    };
+    match next_row_trace_reads(c, width, nodes, bases, exts, roots, &mut out[..]) {
+        Columns::Listed { count: listed } => {
+            *count = listed as u64;
+            0
+        }
+        Columns::Refused(why) => coded_refusal(why),
+    }
+}
