@@ -1,5 +1,5 @@
 //! What the comparisons in tests/ share: the inputs, the published operations on plain words, the same operations by
-//! plain arithmetic, and the comparison itself.
+//! plain arithmetic, and the comparison itself; and all of that once more for programs.
 //!
 //! The host promises words below p; the published Rust leaves any word with the right remainder. So a published word
 //! is reduced here before it is compared, and the host's is compared as it is.
@@ -8,11 +8,12 @@
 
 pub mod inputs;
 pub mod plain;
+pub mod programs;
 pub mod published;
 mod tally;
 
 pub use math::field::goldilocks::GOLDILOCKS_PRIME as P;
-pub use tally::Tally;
+pub use tally::{Score, Tally};
 
 /// An extension value: three words.
 pub type Limbs = [u64; 3];

@@ -2,6 +2,8 @@
 
 use std::fmt::Arguments;
 
+use host::Refusal;
+
 use crate::P;
 
 /// Counts the words that one test compared, so that the test can say the number and a loop that ran over nothing shows.
@@ -54,5 +56,61 @@ impl Tally {
     pub fn finish(self, meant: usize) {
         println!("{}: {} words compared", self.test, self.words);
         assert_eq!(self.words, meant as u64, "{}: words compared", self.test);
+    }
+}
+
+/// Counts what a test of programs compared: programs that agree with the published Rust, words, and each number that
+/// was answered, so that a test can say them and a loop that never got to a refusal shows.
+pub struct Score {
+    test: &'static str,
+    pub agreed: u64,
+    pub words: u64,
+    answers: [u64; 16],
+}
+
+impl Score {
+    pub fn new(test: &'static str) -> Self {
+        Score {
+            test,
+            agreed: 0,
+            words: 0,
+            answers: [0; 16],
+        }
+    }
+
+    pub fn answered(&mut self, answer: &Result<(), Refusal>) {
+        let number = answer.map_or_else(|refusal| refusal.number, |()| 0);
+        self.answers[usize::from(number)] += 1;
+    }
+
+    /// How often this number was answered.
+    pub fn times(&self, number: usize) -> u64 {
+        self.answers[number]
+    }
+
+    /// Says what was compared; each of `numbers` has to have been answered, and no other.
+    #[track_caller]
+    pub fn finish(self, numbers: &[usize]) {
+        let Score {
+            test, agreed, words, ..
+        } = self;
+        let answers: Vec<String> = (0..16)
+            .filter(|number| self.answers[*number] != 0)
+            .map(|number| format!("{number}: {}", self.answers[number]))
+            .collect();
+        if agreed != 0 {
+            println!("{test}: {agreed} programs agree with the published Rust");
+        }
+        println!(
+            "{test}: {words} words compared; answers by number {}",
+            answers.join(", ")
+        );
+        for number in 0..16 {
+            assert_eq!(
+                self.answers[number] != 0,
+                numbers.contains(&number),
+                "{test}: whether {number} was answered"
+            );
+        }
     }
 }

@@ -10,7 +10,7 @@ use host::{Refusal, ext};
 
 const RANDOM: usize = 1_000_000;
 
-const SHORT: Result<(), Refusal> = Err(Refusal { number: 1 });
+const SHORT: Result<(), Refusal> = Err(Refusal { number: 1, place: 0 });
 
 type Changing = fn(&mut [u64], &[u64]) -> Result<(), Refusal>;
 type OfTwo = fn(Limbs, Limbs) -> Limbs;

@@ -15,7 +15,7 @@ const ROUNDS: usize = 50;
 /// Words kept on either side of what is lent, to see that nothing outside it is written.
 const GUARD: usize = 4;
 
-const SHORT: Result<(), Refusal> = Err(Refusal { number: 1 });
+const SHORT: Result<(), Refusal> = Err(Refusal { number: 1, place: 0 });
 
 type Each = fn(&mut [u64], &[u64]) -> Result<(), Refusal>;
 type Chain = fn(u64, &[u64]) -> u64;

@@ -4,11 +4,12 @@
 //! writes or returns as a value is below `P`. An extension value is three words in a row, over w with w³ = 2.
 //!
 //! Memory is lent as slices, so a length always belongs to its pointer, and what a call writes overlaps nothing that
-//! it reads. A call that is lent too little answers a [`Refusal`] and has changed nothing.
+//! it reads. A call that cannot do its work answers a [`Refusal`] and has changed nothing.
 
 mod calls;
 pub mod ext;
 pub mod field;
+pub mod program;
 
 /// The field's prime, 2^64 - 2^32 + 1.
 pub const P: u64 = 0xFFFF_FFFF_0000_0001;
@@ -16,20 +17,39 @@ pub const P: u64 = 0xFFFF_FFFF_0000_0001;
 /// A call's answer other than "done". Whatever was lent is as it was.
 #[derive(Clone, Copy, Debug, PartialEq, Eq)]
 pub struct Refusal {
-    /// The reason's number. 1: a lent slice is shorter than the call needs.
+    /// The reason's number.
+    ///
+    /// | number | given when |
+    /// |---|---|
+    /// | 1 | a lent slice is shorter than the call needs, or than counts or shape say |
+    /// | 2 | shape over 256 steps or 65,536 of anything else |
+    /// | 6 | constraint number at or past the root count |
+    /// | 7 | program not well-formed; place: the lowest such node, else the lowest such root |
+    /// | 8 | node count or a constant count over 536,870,911 |
+    /// | 9 | `num_base` or the root count over 4,294,967,295 |
+    /// | 10 | output room too short |
+    /// | 12 | root below `num_base`, or the one asked for, is an extension value; place: the lowest such root |
+    /// | 13 | leaf outside the frame; place: the lowest such node |
+    /// | 14 | eval slices too short |
     pub number: u8,
+    /// The node or root that the reason names, 0 where it names none.
+    pub place: u64,
 }
 
-/// Reads a call's answer, which is 0 for "done" and else the number of a refusal.
+/// Reads a call's answer: 0 for "done", else the number of a refusal and 256 times its place.
 #[inline]
 fn done(answer: u64) -> Result<(), Refusal> {
     if answer == 0 {
         return Ok(());
     }
-    // No call has a larger number, so one would mean that the archive is not the one these declarations are for.
-    // Going on would be worse than stopping.
-    let number = u8::try_from(answer).expect("the static library answers numbers below 256");
-    Err(Refusal { number })
+    let number = (answer % 256) as u8;
+    // No answer has a place and no number, so one would mean that the archive is not the one these declarations are
+    // for. Going on would be worse than stopping.
+    assert!(number != 0, "the static library gives no place without a number");
+    Err(Refusal {
+        number,
+        place: answer / 256,
+    })
 }
 
 /// A call that changes one slice by another. Every value of this type here is a function of `calls`.

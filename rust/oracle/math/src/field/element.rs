@@ -55,6 +55,15 @@ impl<F: IsField> FieldElement<F> {
         Self::from_raw(F::square(&self.value))
     }
 
+    /// The same element in an extension, by the published embedding.
+    #[inline(always)]
+    pub fn to_extension<L: IsField>(self) -> FieldElement<L>
+    where
+        F: IsSubFieldOf<L>,
+    {
+        FieldElement::from_raw(<F as IsSubFieldOf<L>>::embed(self.value))
+    }
+
     pub fn inv(&self) -> Result<Self, FieldError> {
         F::inv(&self.value).map(Self::from_raw)
     }
@@ -102,32 +111,33 @@ impl<F: IsField> PartialEq for FieldElement<F> {
 
 impl<F: IsField> Eq for FieldElement<F> {}
 
-impl<F: IsSubFieldOf<L>, L: IsField> Add<FieldElement<L>> for FieldElement<F> {
-    type Output = FieldElement<L>;
+/// An operator, with its right side by value and by reference. Both have to be there: with one alone, the compiler would
+/// take the right side's field from a bound `F: IsSubFieldOf<E>` in scope, and `interp.rs` would not compile.
+macro_rules! operator {
+    ($trait:ident, $operation:ident) => {
+        impl<F: IsSubFieldOf<L>, L: IsField> $trait<FieldElement<L>> for FieldElement<F> {
+            type Output = FieldElement<L>;
 
-    #[inline(always)]
-    fn add(self, rhs: FieldElement<L>) -> FieldElement<L> {
-        FieldElement::from_raw(<F as IsSubFieldOf<L>>::add(&self.value, &rhs.value))
-    }
+            #[inline(always)]
+            fn $operation(self, rhs: FieldElement<L>) -> FieldElement<L> {
+                FieldElement::from_raw(<F as IsSubFieldOf<L>>::$operation(&self.value, &rhs.value))
+            }
+        }
+
+        impl<F: IsSubFieldOf<L>, L: IsField> $trait<&FieldElement<L>> for FieldElement<F> {
+            type Output = FieldElement<L>;
+
+            #[inline(always)]
+            fn $operation(self, rhs: &FieldElement<L>) -> FieldElement<L> {
+                FieldElement::from_raw(<F as IsSubFieldOf<L>>::$operation(&self.value, &rhs.value))
+            }
+        }
+    };
 }
 
-impl<F: IsSubFieldOf<L>, L: IsField> Sub<FieldElement<L>> for FieldElement<F> {
-    type Output = FieldElement<L>;
-
-    #[inline(always)]
-    fn sub(self, rhs: FieldElement<L>) -> FieldElement<L> {
-        FieldElement::from_raw(<F as IsSubFieldOf<L>>::sub(&self.value, &rhs.value))
-    }
-}
-
-impl<F: IsSubFieldOf<L>, L: IsField> Mul<FieldElement<L>> for FieldElement<F> {
-    type Output = FieldElement<L>;
-
-    #[inline(always)]
-    fn mul(self, rhs: FieldElement<L>) -> FieldElement<L> {
-        FieldElement::from_raw(<F as IsSubFieldOf<L>>::mul(&self.value, &rhs.value))
-    }
-}
+operator!(Add, add);
+operator!(Sub, sub);
+operator!(Mul, mul);
 
 impl<F: IsField> Neg for FieldElement<F> {
     type Output = FieldElement<F>;
@@ -144,5 +154,17 @@ impl<F: IsField> Neg for &FieldElement<F> {
     #[inline(always)]
     fn neg(self) -> FieldElement<F> {
         FieldElement::from_raw(F::neg(&self.value))
+    }
+}
+
+/// Values whose stored form can be read in place. Named by `table.rs`, called by nothing that is compared.
+pub trait NativeArchived {}
+
+/// Reads stored elements in place. Here a stored element is the element.
+pub struct ArchivedFieldElement<F: IsField>(FieldElement<F>);
+
+impl<F: IsField> ArchivedFieldElement<F> {
+    pub fn slice_as_native(stored: &[FieldElement<F>]) -> &[FieldElement<F>] {
+        stored
     }
 }

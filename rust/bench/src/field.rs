@@ -1,0 +1,181 @@
+//! Time per field operation: the host's calls against the published Rust, in one process and on the same words.
+//!
+//! Throughput is every word of one buffer by its word of another; latency is one value through a whole buffer, each
+//! result the next operand. The three sides take turns in short rounds, and another one goes first each round, so that
+//! what else the machine does falls on all of them alike. Each round has fresh words, so that a branch predictor cannot
+//! learn them by heart.
+
+mod ours;
+mod rust;
+
+use std::hint::black_box;
+use std::time::Instant;
+
+use differential::inputs::Random;
+
+use crate::summary::{Summary, cpu_model};
+
+/// The same words in every run.
+const SEED: u64 = 0x6265_6E63;
+
+/// A multiple of three, and two such buffers are 48 KiB: they stay in a core's first or second cache.
+const WORDS: usize = 3072;
+
+const ROUNDS: usize = 2000;
+
+/// Rounds at the start that are not counted: caches, branch prediction and the clock settle.
+const UNCOUNTED: usize = 20;
+
+/// Passes over the buffers that are timed together, so that reading the clock weighs nothing.
+const PASSES: usize = 8;
+
+/// Changes the first buffer by the second.
+type Pass = fn(&mut [u64], &[u64]);
+
+/// Host, published, published with each result reduced once.
+const SIDES: usize = 3;
+
+struct Case {
+    name: &'static str,
+    /// Words of an operand: a pass over the buffers does this part of `WORDS` operations.
+    width: usize,
+    sides: [Pass; SIDES],
+}
+
+const CASES: [Case; 8] = [
+    Case {
+        name: "base add, throughput",
+        width: 1,
+        sides: [ours::add_each, rust::add_each, rust::add_each_reduced],
+    },
+    Case {
+        name: "base sub, throughput",
+        width: 1,
+        sides: [ours::sub_each, rust::sub_each, rust::sub_each_reduced],
+    },
+    Case {
+        name: "base mul, throughput",
+        width: 1,
+        sides: [ours::mul_each, rust::mul_each, rust::mul_each_reduced],
+    },
+    Case {
+        name: "ext mul, throughput",
+        width: 3,
+        sides: [ours::ext_mul_each, rust::ext_mul_each, rust::ext_mul_each_reduced],
+    },
+    Case {
+        name: "base add, latency",
+        width: 1,
+        sides: [ours::add_chain, rust::add_chain, rust::add_chain_reduced],
+    },
+    Case {
+        name: "base sub, latency",
+        width: 1,
+        sides: [ours::sub_chain, rust::sub_chain, rust::sub_chain_reduced],
+    },
+    Case {
+        name: "base mul, latency",
+        width: 1,
+        sides: [ours::mul_chain, rust::mul_chain, rust::mul_chain_reduced],
+    },
+    Case {
+        name: "ext mul, latency",
+        width: 3,
+        sides: [ours::ext_mul_chain, rust::ext_mul_chain, rust::ext_mul_chain_reduced],
+    },
+];
+
+pub fn run() {
+    let mut random = Random::new(SEED);
+    let (xs, ys) = operands(&mut random);
+    for case in &CASES {
+        check(case, &xs, &ys);
+    }
+    print(measure(&mut random));
+}
+
+/// Two buffers of uniform words.
+fn operands(random: &mut Random) -> (Vec<u64>, Vec<u64>) {
+    let mut buffer = || (0..WORDS).map(|_| random.uniform()).collect();
+    (buffer(), buffer())
+}
+
+/// A time says nothing if the sides do different work: they have to leave the same words modulo p.
+fn check(case: &Case, xs: &[u64], ys: &[u64]) {
+    let [ours, others @ ..] = case.sides.map(|pass| {
+        let mut words = xs.to_vec();
+        pass(&mut words, ys);
+        words.iter_mut().for_each(|word| *word %= host::P);
+        words
+    });
+    for other in others {
+        assert!(ours == other, "{}: the sides differ modulo p", case.name);
+    }
+}
+
+/// Nanoseconds an operation, by case and side, one for each counted round.
+type Times = [[Vec<f64>; SIDES]; CASES.len()];
+
+fn measure(random: &mut Random) -> Times {
+    let mut times = Times::default();
+    for round in 0..UNCOUNTED + ROUNDS {
+        let (xs, ys) = operands(random);
+        let mut words = xs.clone();
+        for (case, times) in CASES.iter().zip(&mut times) {
+            let operations = (PASSES * WORDS / case.width) as f64;
+            for turn in 0..SIDES {
+                let side = (round + turn) % SIDES;
+                let pass = black_box(case.sides[side]);
+                words.copy_from_slice(&xs);
+                let start = Instant::now();
+                for _ in 0..PASSES {
+                    pass(black_box(&mut words), black_box(&ys));
+                }
+                let taken = start.elapsed();
+                if UNCOUNTED <= round {
+                    times[side].push(taken.as_nanos() as f64 / operations);
+                }
+            }
+        }
+        if (round + 1) % 200 == 0 {
+            eprintln!("{} of {} rounds", round + 1, UNCOUNTED + ROUNDS);
+        }
+    }
+    times
+}
+
+fn print(times: Times) {
+    println!(
+        "{}; {ROUNDS} rounds of {PASSES} passes; two buffers of {WORDS} words ({} KiB each)",
+        cpu_model(),
+        WORDS * size_of::<u64>() / 1024
+    );
+    println!("nanoseconds an operation: median and best of the rounds; ratios of medians and of bests");
+    println!("reduced: the published operation with its result put below p once, as ours is");
+    println!();
+    println!(
+        "{:<22}{:>16}{:>18}{:>18}{:>18}{:>18}",
+        "", "ours", "published", "reduced", "ours/published", "ours/reduced"
+    );
+    println!(
+        "{:<22}{:>9}{:>7}{:>11}{:>7}{:>11}{:>7}{:>11}{:>7}{:>11}{:>7}",
+        "operation", "median", "best", "median", "best", "median", "best", "median", "best", "median", "best"
+    );
+    for (case, times) in CASES.iter().zip(times) {
+        let [ours, published, reduced] = times.map(Summary::of);
+        println!(
+            "{:<22}{:>9.3}{:>7.3}{:>11.3}{:>7.3}{:>11.3}{:>7.3}{:>11.2}{:>7.2}{:>11.2}{:>7.2}",
+            case.name,
+            ours.median,
+            ours.best,
+            published.median,
+            published.best,
+            reduced.median,
+            reduced.best,
+            ours.median / published.median,
+            ours.best / published.best,
+            ours.median / reduced.median,
+            ours.best / reduced.best,
+        );
+    }
+}

@@ -1,0 +1,11 @@
+//! Prints the fixed sample of programs. `differential::programs::sample` says what the numbers of a line are.
+
+#![forbid(unsafe_code)]
+
+use differential::programs::sample::{cases, line};
+
+fn main() {
+    for case in cases() {
+        println!("{}", line(&case));
+    }
+}
