@@ -6,4 +6,5 @@ pub mod OutcomeLaws
 pub mod ReadyLaws
 pub mod RefuseLaws
 pub mod RunLaws
+pub mod Single
 pub mod ValueLaws

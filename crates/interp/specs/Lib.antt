@@ -1,6 +1,7 @@
--- What the evaluators' contracts cite.
+-- What the evaluators' contracts cite, and program E.
 pub mod Evals
 pub mod Evaluation
+pub mod ExampleE
 pub mod Frame
 pub mod Operations
 pub mod Room

@@ -10,14 +10,17 @@ use Rattle.ir.specs.declared.reads.Columns.{Columns}
 use Rattle.ir.specs.declared.reads.Columns.the-variants.{Listed, Refused}
 use Rattle.ir.specs.declared.refusal.Refusal.{Refusal}
 use Rattle.ir.specs.declared.refusal.Refusal.the-variants.{ShortMemory, OverLimit, ForeignHandle, NodesFull, ConstantsFull, NoConstraint, IllFormed, TooManyNodes, TooManyRoots, ShortOutput, IllegalBlob, ExtensionRoot, LeafOutside, ShortEvals, BadFraming}
+use Rattle.ir.specs.declared.refusal.Outcome.{Outcome}
+use Rattle.ir.specs.declared.refusal.Outcome.the-variants.{Done}
+use Rattle.ir.specs.declared.refusal.Outcome.the-variants as Outcomes
 use Rattle.ir.specs.Program.{Program}
 use Rattle.ir.specs.Reads.{saidOfColumns, ReadsAnswer}
-use Rattle.ir.specs.Refusals.{Said, saidOf}
+use Rattle.ir.specs.Refusals.{Said, saidOf, saidOfOutcome}
 
 -- ---- a case is known by what it says
 
 -- the refusal with a number and a place
-abbrev refusalOf : ℕ → ℕ → Refusal
+abbrev pub refusalOf : ℕ → ℕ → Refusal
 refusalOf n at =
     cond (eqb n 1) ShortMemory
     (cond (eqb n 2) OverLimit
@@ -33,7 +36,7 @@ refusalOf n at =
     (cond (eqb n 12) (ExtensionRoot at) (cond (eqb n 13) (LeafOutside at) (cond (eqb n 14) ShortEvals BadFraming)))))))))))))
 
 -- a refusal's number is not 0, and with the place it gives the refusal back
-known : (r : Refusal) → (eqb (saidOf r .number) 0 ≡ false) × (refusalOf (saidOf r .number) (saidOf r .place) ≡ r)
+pub known : (r : Refusal) → (eqb (saidOf r .number) 0 ≡ false) × (refusalOf (saidOf r .number) (saidOf r .place) ≡ r)
 known ShortMemory = (refl, refl)
 known OverLimit = (refl, refl)
 known ForeignHandle = (refl, refl)
@@ -49,6 +52,22 @@ known (ExtensionRoot at) = (refl, refl)
 known (LeafOutside at) = (refl, refl)
 known ShortEvals = (refl, refl)
 known BadFraming = (refl, refl)
+
+-- ---- calls that hand nothing back
+
+abbrev outcomeSaid : Said → Outcome
+outcomeSaid s = cond (eqb (s .number) 0) Done (Outcomes.Refused (refusalOf (s .number) (s .place)))
+
+outcome-back : (o : Outcome) → outcomeSaid (saidOfOutcome o) ≡ o
+outcome-back Done = refl
+outcome-back (Outcomes.Refused r) = rw (known r .0, known r .1)
+
+pub outcome-single : (o o′ : Outcome) → saidOfOutcome o ≡ saidOfOutcome o′ → o ≡ o′
+outcome-single o o′ e = sym (outcome-back o) ∙ ap outcomeSaid e ∙ outcome-back o′
+
+-- the program check's contract is an equation on what is said: one answer
+pub check-program-single : {s : Said} {o o′ : Outcome} → saidOfOutcome o ≡ s → saidOfOutcome o′ ≡ s → o ≡ o′
+check-program-single {s} {o} {o′} f g = outcome-single o o′ (f ∙ sym g)
 
 -- ---- next_row_trace_reads
 
