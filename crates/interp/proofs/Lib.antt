@@ -1,5 +1,6 @@
 -- Laws of the evaluators.
 pub mod AnswerLaws
+pub mod ClassLaws
 pub mod EvalLaws
 pub mod OperationLaws
 pub mod OutcomeLaws
