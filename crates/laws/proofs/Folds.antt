@@ -3,13 +3,13 @@
 use mathlib.Core.Bool.{Bool, true, false, cond}
 use mathlib.Core.Logic.{⊎-elim}
 use mathlib.Core.Option.{Option, none, some}
-use mathlib.Core.Path.{_≡_, refl, sym, _∙_}
+use mathlib.Core.Path.{_≡_, refl}
 use Prim.Native.Nat.{ℕ, zero, suc, _+_, _<_, _≤_}
 use native.Mathlib.Decide.{le-ind}
 use native.Mathlib.Nat.{eq-or-lt-of-le}
 use native.Mathlib.Numerals.{add-one}
 use native.Mathlib.Omega.{arith}
-use Rattle.laws.specs.Folds.{lowest, orElse}
+use Rattle.laws.specs.Folds.{lowest, orElse, through}
 
 -- no place is some place
 pub none-some : {P : Type 0} {A : Type 0} {o : Option A} {x : A} → o ≡ none → o ≡ some x → P
@@ -57,3 +57,18 @@ module _ (t : ℕ → Bool) where
   unfolding lowest
   none-lowest zero h = refl
   none-lowest (suc n) h = rw (none-lowest n (λ i l. h i (omega arith)), h n (omega arith))
+
+module _ {A : Type 0} (step : A → ℕ → A) where
+  pub through-none : (start : A) → through step start 0 ≡ start
+  unfolding through
+  through-none start = refl
+
+  pub through-more : (start : A) (k : ℕ) → through step start (k + 1) ≡ step (through step start k) k
+  unfolding through
+  through-more start k = rw add-one
+
+  -- what each step keeps of two values, the whole keeps
+  pub through-keeps : (R : A → A → Type 0) → ((a b : A) (k : ℕ) → R a b → R (step a k) (step b k)) → {a b : A} (n : ℕ) → R a b → R (through step a n) (through step b n)
+  unfolding through
+  through-keeps R keep zero e = e
+  through-keeps R keep (suc n) e = keep _ _ n (through-keeps R keep n e)
