@@ -1,4 +1,4 @@
-/* The calls of the static library libhost.a, which `rt staticlib host` writes to target/staticlib/.
+/* The field's calls of the static library libhost.a, which `rt staticlib host` writes to target/staticlib/.
  *
  * A field value is a word that stands for its remainder by p = 2^64 - 2^32 + 1. Every word is taken; every word that a
  * call writes or returns as a value is below p. An extension value is three words in a row, over w with w cubed = 2.
