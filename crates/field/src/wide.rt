@@ -3,7 +3,7 @@
 // shared a part.
 ghost use Prim.Native.Nat.{_+_, _*_, _/_, _%_, _^_, _<_};
 ghost use mathlib.Core.Path.{_≡_};
-ghost use Rattle.field.specs.Wide.{Half, Carry};
+ghost use Rattle.field.specs.Wide.{HalfProduct, Carry};
 
 // A sum of words: the word that is left, and how often it passed 2^64.
 pub struct Carried {
@@ -14,7 +14,7 @@ pub struct Carried {
 // The product of two halves of words.
 fn product(a: u64, b: u64) -> u64
     requires { ⌜ (a < 2 ^ 32) × (b < 2 ^ 32) ⌝ }
-    ensures { λ r. ⌜ Half a b r ⌝ }
+    ensures { λ r. ⌜ HalfProduct a b r ⌝ }
 {
     a * b
 }

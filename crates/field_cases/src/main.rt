@@ -76,6 +76,7 @@ fn extensions() {
     extension(b"(top,p,3)+(4,5,p-1)", a.add(b));
     extension(b"(top,p,3)-(4,5,p-1)", a.sub(b));
     extension(b"-(top,p,3)", a.neg());
+    extension(b"reduce(top,p,3)", a.reduce());
     extension(b"(top,p,3)(4,5,p-1)", a.mul(b));
     let mut words = [7u64, 7, 7, 7, 7];
     b.store(&mut words, 1);

@@ -11,7 +11,7 @@ use native.Mathlib.Nat.{eq-or-lt-of-le, le-refl}
 use native.Mathlib.Numerals.{add-one}
 use native.Mathlib.Omega.{arith}
 use lib.ListN.{length, length-append}
-use Rattle.laws.specs.Folds.{anyBelow, lowest, orElse, allBelow}
+use Rattle.laws.specs.Folds.{anyBelow, lowest, orElse, allBelow, through}
 
 -- no place is some place
 pub none-some : {P : Type 0} {A : Type 0} {o : Option A} {x : A} → o ≡ none → o ≡ some x → P
@@ -100,3 +100,18 @@ pub all-same : (s t : ℕ → Bool) (n : ℕ) → ((i : ℕ) → i < n → s i �
 unfolding allBelow
 all-same s t zero h = refl
 all-same s t (suc n) h = rw (all-same s t n (λ i l. h i (omega arith)), h n (omega arith))
+
+module _ {A : Type 0} (step : A → ℕ → A) where
+  pub through-none : (start : A) → through step start 0 ≡ start
+  unfolding through
+  through-none start = refl
+
+  pub through-more : (start : A) (k : ℕ) → through step start (k + 1) ≡ step (through step start k) k
+  unfolding through
+  through-more start k = rw add-one
+
+  -- what each step keeps of two values, the whole keeps
+  pub through-keeps : (R : A → A → Type 0) → ((a b : A) (k : ℕ) → R a b → R (step a k) (step b k)) → {a b : A} (n : ℕ) → R a b → R (through step a n) (through step b n)
+  unfolding through
+  through-keeps R keep zero e = e
+  through-keeps R keep (suc n) e = keep _ _ n (through-keeps R keep n e)

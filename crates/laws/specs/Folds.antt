@@ -1,6 +1,6 @@
 -- What is asked of the numbers below n, each a fold on n.
 -- Assumes nothing.
-use mathlib.Core.Bool.{Bool, true, false, cond, _||_}
+use mathlib.Core.Bool.{Bool, false, cond, _||_}
 use mathlib.Core.List.{List, [], _∷_, _++_}
 use mathlib.Core.Option.{Option, none, some}
 use Prim.Native.Nat.{ℕ, zero, suc}
@@ -24,3 +24,8 @@ lowest t (suc k) = orElse (lowest t k) (cond (t k) (some k) none)
 unfoldable pub allBelow : (ℕ → Bool) → ℕ → List ℕ
 allBelow t zero = []
 allBelow t (suc k) = allBelow t k ++ cond (t k) (k ∷ []) []
+
+-- start, taken through a step at each of them in turn
+unfoldable pub through : {A : Type 0} → (A → ℕ → A) → A → ℕ → A
+through step start zero = start
+through step start (suc k) = step (through step start k) k

@@ -39,48 +39,74 @@ struct Case {
     name: &'static str,
     /// Words of an operand: a pass over the buffers does this part of `WORDS` operations.
     width: usize,
+    /// The second operand's words are uniform below 2 to this power.
+    bits: u32,
     sides: [Pass; SIDES],
 }
 
-const CASES: [Case; 8] = [
+/// With the second operand's words below 2 to this power, no sum of three products of the extension's multiplication
+/// passes 2^128, whatever the first operand is: each product is below 2^125, or 2^126 where a word is doubled.
+const NARROW: u32 = 61;
+
+const CASES: [Case; 10] = [
     Case {
         name: "base add, throughput",
         width: 1,
+        bits: u64::BITS,
         sides: [ours::add_each, rust::add_each, rust::add_each_reduced],
     },
     Case {
         name: "base sub, throughput",
         width: 1,
+        bits: u64::BITS,
         sides: [ours::sub_each, rust::sub_each, rust::sub_each_reduced],
     },
     Case {
         name: "base mul, throughput",
         width: 1,
+        bits: u64::BITS,
         sides: [ours::mul_each, rust::mul_each, rust::mul_each_reduced],
     },
     Case {
         name: "ext mul, throughput",
         width: 3,
+        bits: u64::BITS,
+        sides: [ours::ext_mul_each, rust::ext_mul_each, rust::ext_mul_each_reduced],
+    },
+    Case {
+        name: "ext mul by narrow, throughput",
+        width: 3,
+        bits: NARROW,
         sides: [ours::ext_mul_each, rust::ext_mul_each, rust::ext_mul_each_reduced],
     },
     Case {
         name: "base add, latency",
         width: 1,
+        bits: u64::BITS,
         sides: [ours::add_chain, rust::add_chain, rust::add_chain_reduced],
     },
     Case {
         name: "base sub, latency",
         width: 1,
+        bits: u64::BITS,
         sides: [ours::sub_chain, rust::sub_chain, rust::sub_chain_reduced],
     },
     Case {
         name: "base mul, latency",
         width: 1,
+        bits: u64::BITS,
         sides: [ours::mul_chain, rust::mul_chain, rust::mul_chain_reduced],
     },
     Case {
         name: "ext mul, latency",
         width: 3,
+        bits: u64::BITS,
+        sides: [ours::ext_mul_chain, rust::ext_mul_chain, rust::ext_mul_chain_reduced],
+    },
+    Case {
+        name: "ext mul by narrow, latency",
+        width: 3,
+        bits: NARROW,
         sides: [ours::ext_mul_chain, rust::ext_mul_chain, rust::ext_mul_chain_reduced],
     },
 ];
@@ -94,17 +120,23 @@ pub fn run() {
     print(measure(&mut random));
 }
 
-/// Two buffers of uniform words.
+/// Two buffers of uniform words, for a case that narrows the second itself.
 fn operands(random: &mut Random) -> (Vec<u64>, Vec<u64>) {
     let mut buffer = || (0..WORDS).map(|_| random.uniform()).collect();
     (buffer(), buffer())
 }
 
+/// The words, below 2 to the power `bits`.
+fn narrowed(words: &[u64], bits: u32) -> Vec<u64> {
+    words.iter().map(|word| word >> (u64::BITS - bits)).collect()
+}
+
 /// A time says nothing if the sides do different work: they have to leave the same words modulo p.
 fn check(case: &Case, xs: &[u64], ys: &[u64]) {
+    let ys = narrowed(ys, case.bits);
     let [ours, others @ ..] = case.sides.map(|pass| {
         let mut words = xs.to_vec();
-        pass(&mut words, ys);
+        pass(&mut words, &ys);
         words.iter_mut().for_each(|word| *word %= host::P);
         words
     });
@@ -122,6 +154,7 @@ fn measure(random: &mut Random) -> Times {
         let (xs, ys) = operands(random);
         let mut words = xs.clone();
         for (case, times) in CASES.iter().zip(&mut times) {
+            let ys = narrowed(&ys, case.bits);
             let operations = (PASSES * WORDS / case.width) as f64;
             for turn in 0..SIDES {
                 let side = (round + turn) % SIDES;
@@ -152,19 +185,20 @@ fn print(times: Times) {
     );
     println!("nanoseconds an operation: median and best of the rounds; ratios of medians and of bests");
     println!("reduced: the published operation with its result put below p once, as ours is");
+    println!("narrow: the second operand's words are below 2^{NARROW}; all other words are uniform");
     println!();
     println!(
-        "{:<22}{:>16}{:>18}{:>18}{:>18}{:>18}",
+        "{:<31}{:>16}{:>18}{:>18}{:>18}{:>18}",
         "", "ours", "published", "reduced", "ours/published", "ours/reduced"
     );
     println!(
-        "{:<22}{:>9}{:>7}{:>11}{:>7}{:>11}{:>7}{:>11}{:>7}{:>11}{:>7}",
+        "{:<31}{:>9}{:>7}{:>11}{:>7}{:>11}{:>7}{:>11}{:>7}{:>11}{:>7}",
         "operation", "median", "best", "median", "best", "median", "best", "median", "best", "median", "best"
     );
     for (case, times) in CASES.iter().zip(times) {
         let [ours, published, reduced] = times.map(Summary::of);
         println!(
-            "{:<22}{:>9.3}{:>7.3}{:>11.3}{:>7.3}{:>11.3}{:>7.3}{:>11.2}{:>7.2}{:>11.2}{:>7.2}",
+            "{:<31}{:>9.3}{:>7.3}{:>11.3}{:>7.3}{:>11.3}{:>7.3}{:>11.2}{:>7.2}{:>11.2}{:>7.2}",
             case.name,
             ours.median,
             ours.best,

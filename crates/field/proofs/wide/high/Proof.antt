@@ -1,3 +1,5 @@
+-- `high` meets its contract: the upper word of the four products of halves, with their carries.
+-- Assumes nothing.
 use Rattle.field.proofs.Words.{high-word, carries-small}
 use borrow.Author.Needs.{needs}
 use Rattle.field.proofs.wide.high.Statement.{statement}

@@ -1,3 +1,5 @@
+-- `low` meets its contract: the lower word of the four products of halves.
+-- Assumes nothing.
 use mathlib.Core.Path.{refl}
 use Rattle.field.proofs.Words.{low-word}
 use borrow.Author.Needs.{needs}
