@@ -56,6 +56,7 @@ module _ {B X : Type 0} (K : Tower B X) (u : Leaves B X) (prover : (step col : �
     where
       past-two : {t : ℕ} → (t ≡ 0 → ⊥) → (t ≡ 1 → ⊥) → (t ≡ 2 → ⊥) → 3 ≤ t
       past-two a b d = omega arith
+
       cell-class : (t : Bool) (step col : ℕ) → classOf (cond (cond t false true) (u .main step col) (ext (u .aux step col))) ≡ cond t 1 0
       cell-class true step col = refl
       cell-class false step col = prover step col
@@ -77,6 +78,7 @@ module _ {B X : Type 0} (K : Tower B X) (u : Leaves B X) (prover : (step col : �
     where
       ten : {t : ℕ} → 6 ≤ t → t ≤ 10 → (t ≡ 6 → ⊥) → (t ≡ 7 → ⊥) → (t ≡ 8 → ⊥) → (t ≡ 9 → ⊥) → t ≡ 10
       ten a b p q r s = omega arith
+
       joint : (f : B → B → B) (g : X → X → X) → (x < i) × (y < i) × (d ≡ joined (nodeAt nodes x .dim) (nodeAt nodes y .dim)) → classOf (binop K f g (env x) (env y)) ≡ d
       joint f g q = binop-class K f g (env x) (env y) ∙ (λ k. joined (ih x (q .0) k) (ih y (q .1) k)) ∙ sym (q .2)
 
@@ -93,7 +95,8 @@ module _ {B X : Type 0} (K : Tower B X) (u : Leaves B X) (prover : (step col : �
     where
       less : {a b : ℕ} → a < suc b → (a ≡ b → ⊥) → a < b
       less p q = omega arith
+
       here : (k : ℕ) → k < c .nodes → ((j : ℕ) → j < k → classOf (values K u nodes k j) ≡ nodeAt nodes j .dim) → classOf (nodeValue K u (values K u nodes k) (nodeAt nodes k .tag) (nodeAt nodes k .x) (nodeAt nodes k .y)) ≡ nodeAt nodes k .dim
       here k m ih = by-test (ltb (nodeAt nodes k .tag) 6) (classOf (nodeValue K u (values K u nodes k) (nodeAt nodes k .tag) (nodeAt nodes k .x) (nodeAt nodes k .y)) ≡ nodeAt nodes k .dim)
-        (λ t. rw t (leaf-class c nodes k (nodeAt nodes k .tag) (nodeAt nodes k .x) (nodeAt nodes k .y) (nodeAt nodes k .dim) (w .node k m) (ltb-true _ _ t)))
-        λ t. rw t (operation-class c nodes k (nodeAt nodes k .tag) (nodeAt nodes k .x) (nodeAt nodes k .y) (nodeAt nodes k .dim) (values K u nodes k) (w .node k m) (ltb-false _ _ t) ih)
+          (λ t. rw t (leaf-class c nodes k (nodeAt nodes k .tag) (nodeAt nodes k .x) (nodeAt nodes k .y) (nodeAt nodes k .dim) (w .node k m) (ltb-true _ _ t)))
+          λ t. rw t (operation-class c nodes k (nodeAt nodes k .tag) (nodeAt nodes k .x) (nodeAt nodes k .y) (nodeAt nodes k .dim) (values K u nodes k) (w .node k m) (ltb-false _ _ t) ih)
