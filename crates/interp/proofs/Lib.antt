@@ -3,6 +3,7 @@ pub mod AnswerLaws
 pub mod ClassLaws
 pub mod EvalLaws
 pub mod OperationLaws
+pub mod OrderLaws
 pub mod OutcomeLaws
 pub mod ReadyLaws
 pub mod RefuseLaws

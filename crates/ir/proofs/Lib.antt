@@ -1,5 +1,6 @@
 -- Laws of programs.
 pub mod BytesLaws
+pub mod OrderLaws
 pub mod ProgramLaws
 pub mod ReadsLaws
 pub mod RefusalLaws
