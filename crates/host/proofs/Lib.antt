@@ -2,3 +2,4 @@
 pub mod FieldCallLaws
 pub mod Single
 pub mod ProgramCallLaws
+pub mod ProgramSingle
