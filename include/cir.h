@@ -1,12 +1,13 @@
-/* The field's calls of the static library libhost.a, which `rt staticlib host` writes to target/staticlib/.
+/* The calls of the static library libhost.a, which `rt staticlib host` writes to target/staticlib/.
  *
  * A field value is a word that stands for its remainder by p = 2^64 - 2^32 + 1. Every word is taken; every word that a
  * call writes or returns as a value is below p. An extension value is three words in a row, over w with w cubed = 2.
  *
  * A slice is lent as a pointer and its length in words. What a call writes must overlap nothing else that it is lent.
- * A pointer is not null and is aligned to 8 bytes, also where the length is 0.
+ * A pointer is not null and is aligned to its words, also where the length is 0.
  *
- * A call with an answer gives 0 for "done", or 1 where a slice is too short; then no word has changed.
+ * A call with an answer gives 0 for "done", or 1 where a slice is too short; then no word has changed. A call on programs
+ * answers a refusal as its number plus 256 times its place; then too no word has changed.
  */
 #ifndef CIR_H
 #define CIR_H
@@ -68,6 +69,58 @@ uint64_t cir_ext_mul(uint64_t *a, size_t n, const uint64_t *b, size_t m);
 uint64_t cir_ext_mul_each(uint64_t *xs, size_t n, const uint64_t *ys, size_t m);
 /* x becomes x times each three words of ys in turn; words of ys left over count for nothing; 1 where n < 3 */
 uint64_t cir_ext_mul_chain(uint64_t *x, size_t n, const uint64_t *ys, size_t m);
+
+/* ---- programs
+ *
+ * A program is four tables, each with its count: n nodes of four words (tag, x, y, dim), base constants of one word,
+ * extension constants of three, and roots, which name nodes. A table may be longer than its count says.
+ */
+
+/* 0 where the program is well-formed, else 8, 9, 1 or 7 */
+uint64_t cir_check_program(size_t n, size_t base_count, size_t ext_count, size_t root_count, size_t num_base,
+                           const uint32_t *nodes, size_t nodes_len, const uint64_t *base_consts,
+                           size_t base_consts_len, const uint64_t *ext_consts, size_t ext_consts_len,
+                           const uint32_t *roots, size_t roots_len);
+
+/* the columns that the program reads at a later row, ascending, into out, and how many into count; aux columns are moved
+ * up by width; else 8, 9, 2, 1, 7 or 10 */
+uint64_t cir_next_row_trace_reads(size_t n, size_t base_count, size_t ext_count, size_t root_count, size_t num_base,
+                                  size_t width, const uint32_t *nodes, size_t nodes_len, const uint64_t *base_consts,
+                                  size_t base_consts_len, const uint64_t *ext_consts, size_t ext_consts_len,
+                                  const uint32_t *roots, size_t roots_len, uint32_t *out, size_t out_len,
+                                  uint64_t *count);
+
+/* The evaluators lend a room of four words a node, which may hold anything; after 0 it holds each node's class (0 or 1)
+ * and three limbs. o0, o1, o2 are the table offset. */
+
+/* constraint i below num_base into base_evals[i], the others into three words of ext_evals from 3 i on */
+uint64_t cir_eval_program(size_t n, size_t base_count, size_t ext_count, size_t root_count, size_t num_base,
+                          size_t steps, size_t main_width, size_t aux_width, size_t challenge_count,
+                          size_t alpha_count, uint64_t o0, uint64_t o1, uint64_t o2, const uint32_t *nodes,
+                          size_t nodes_len, const uint64_t *base_consts, size_t base_consts_len,
+                          const uint64_t *ext_consts, size_t ext_consts_len, const uint32_t *roots, size_t roots_len,
+                          const uint64_t *main, size_t main_len, const uint64_t *aux, size_t aux_len,
+                          const uint64_t *challenges, size_t challenges_len, const uint64_t *alphas,
+                          size_t alphas_len, uint64_t *base_evals, size_t base_evals_len, uint64_t *ext_evals,
+                          size_t ext_evals_len, uint64_t *room, size_t room_len);
+
+/* main cells are extension values; every constraint goes into ext_evals */
+uint64_t cir_eval_program_verifier(size_t n, size_t base_count, size_t ext_count, size_t root_count, size_t num_base,
+                                   size_t steps, size_t main_width, size_t aux_width, size_t challenge_count,
+                                   size_t alpha_count, uint64_t o0, uint64_t o1, uint64_t o2, const uint32_t *nodes,
+                                   size_t nodes_len, const uint64_t *base_consts, size_t base_consts_len,
+                                   const uint64_t *ext_consts, size_t ext_consts_len, const uint32_t *roots,
+                                   size_t roots_len, const uint64_t *main, size_t main_len, const uint64_t *aux,
+                                   size_t aux_len, const uint64_t *challenges, size_t challenges_len,
+                                   const uint64_t *alphas, size_t alphas_len, uint64_t *ext_evals,
+                                   size_t ext_evals_len, uint64_t *room, size_t room_len);
+
+/* one constraint over one row of base cells, into value */
+uint64_t cir_eval_program_base(size_t n, size_t base_count, size_t ext_count, size_t root_count, size_t num_base,
+                               size_t width, size_t constraint, const uint32_t *nodes, size_t nodes_len,
+                               const uint64_t *base_consts, size_t base_consts_len, const uint64_t *ext_consts,
+                               size_t ext_consts_len, const uint32_t *roots, size_t roots_len, const uint64_t *row,
+                               size_t row_len, uint64_t *room, size_t room_len, uint64_t *value);
 
 #ifdef __cplusplus
 }

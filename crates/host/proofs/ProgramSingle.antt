@@ -28,8 +28,7 @@ module _ {rows : List Row} {env : ℕ → Value ℕ (List ℕ)} {n count : ℕ} 
 
 pub cir-eval-program-base-single : {rows : List Row} {env : ℕ → Value ℕ (List ℕ)} {n asked : ℕ} {roots room room₁ room₂ : List ℕ} {a a′ value value₁ value₂ : ℕ} → CalledBase (λ o. RowEvaluates rows env n asked roots o room room₁) a value value₁ → CalledBase (λ o. RowEvaluates rows env n asked roots o room room₂) a′ value value₂ → (a ≡ a′) × (value₁ ≡ value₂) × (room₁ ≡ room₂)
 cir-eval-program-base-single {value} f g =
-    let q = eval-program-base-single (f .promised) (g .promised) in
-    (
+    let q = eval-program-base-single (f .promised) (g .promised) in (
       f .answered ∙ ap (λ (o : Evaluated). answerOf (saidOfEvaluated o)) (q .0) ∙ sym (g .answered),
       f .written ∙ ap (λ (o : Evaluated). onDone (saidOfEvaluated o) value) (q .0) ∙ sym (g .written),
       q .1,
@@ -37,8 +36,7 @@ cir-eval-program-base-single {value} f g =
 
 pub cir-next-row-trace-reads-single : {p : Program} {width : ℕ} {out out₁ out₂ : List ℕ} {a a′ count count₁ count₂ : ℕ} → CalledReads (λ o. ReadsAnswer p width out out₁ o) a count count₁ → CalledReads (λ o. ReadsAnswer p width out out₂ o) a′ count count₂ → (a ≡ a′) × (count₁ ≡ count₂) × (out₁ ≡ out₂)
 cir-next-row-trace-reads-single {count} f g =
-    let q = next-row-trace-reads-single (f .promised) (g .promised) in
-    (
+    let q = next-row-trace-reads-single (f .promised) (g .promised) in (
       f .answered ∙ ap (λ (o : Columns). answerOf (saidOfColumns o)) (q .0) ∙ sym (g .answered),
       f .written ∙ ap (λ (o : Columns). onDone (saidOfColumns o) count) (q .0) ∙ sym (g .written),
       q .1,
