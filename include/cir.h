@@ -8,6 +8,21 @@
  *
  * A call with an answer gives 0 for "done", or 1 where a slice is too short; then no word has changed. A call on programs
  * answers a refusal as its number plus 256 times its place; then too no word has changed.
+ *
+ * The numbers of program calls, in the order in which they are tested; where several hold, the first is given:
+ *
+ *    8  n or a constant count is over 536,870,911
+ *    9  num_base or the root count is over 4,294,967,295
+ *    2  the shape has over 256 steps or over 65,536 of anything else; or a width is over 65,536
+ *    1  a table, the frame or the room is shorter than counts and shape say
+ *   14  eval buffers are too short
+ *    6  there is no such constraint
+ *    7  the program is not well-formed; place: the lowest node at fault, else the lowest root
+ *   13  a leaf is outside the frame; place: the lowest such node, read or not
+ *   12  a root that has to be base is extension; place: its constraint, the lowest such
+ *   10  the output is too short
+ *
+ * Where no place is named it is 0.
  */
 #ifndef CIR_H
 #define CIR_H
@@ -82,18 +97,22 @@ uint64_t cir_check_program(size_t n, size_t base_count, size_t ext_count, size_t
                            size_t base_consts_len, const uint64_t *ext_consts, size_t ext_consts_len,
                            const uint32_t *roots, size_t roots_len);
 
-/* the columns that the program reads at a later row, ascending, into out, and how many into count; aux columns are moved
- * up by width; else 8, 9, 2, 1, 7 or 10 */
+/* the columns that the program reads at a later row, ascending and each once, into out, and how many into count; aux
+ * columns are moved up by width; else 8, 9, 2, 1, 7 or 10. Words of out past them stay. */
 uint64_t cir_next_row_trace_reads(size_t n, size_t base_count, size_t ext_count, size_t root_count, size_t num_base,
                                   size_t width, const uint32_t *nodes, size_t nodes_len, const uint64_t *base_consts,
                                   size_t base_consts_len, const uint64_t *ext_consts, size_t ext_consts_len,
                                   const uint32_t *roots, size_t roots_len, uint32_t *out, size_t out_len,
                                   uint64_t *count);
 
-/* The evaluators lend a room of four words a node, which may hold anything; after 0 it holds each node's class (0 or 1)
- * and three limbs. o0, o1, o2 are the table offset. */
+/* The evaluators borrow a room of four words a node, which may hold anything; after 0 it holds each node's class (0 or 1)
+ * and three limbs, a base value embedded. The frame has steps times main_width main cells and steps times aux_width aux
+ * cells, by step, then column. An aux cell, a challenge and an alpha power are three words each. o0, o1, o2 are the table
+ * offset. */
 
-/* constraint i below num_base into base_evals[i], the others into three words of ext_evals from 3 i on */
+/* main cells are one word; constraint i below num_base into base_evals[i], the others into three words of ext_evals from
+ * 3 i on; other eval words stay. base_evals needs the smaller of num_base and root_count, ext_evals three words a root if
+ * any is at or past num_base. Else 8, 9, 2, 1, 14, 7, 13 or 12. */
 uint64_t cir_eval_program(size_t n, size_t base_count, size_t ext_count, size_t root_count, size_t num_base,
                           size_t steps, size_t main_width, size_t aux_width, size_t challenge_count,
                           size_t alpha_count, uint64_t o0, uint64_t o1, uint64_t o2, const uint32_t *nodes,
@@ -104,7 +123,8 @@ uint64_t cir_eval_program(size_t n, size_t base_count, size_t ext_count, size_t 
                           size_t alphas_len, uint64_t *base_evals, size_t base_evals_len, uint64_t *ext_evals,
                           size_t ext_evals_len, uint64_t *room, size_t room_len);
 
-/* main cells are extension values; every constraint goes into ext_evals */
+/* main cells are extension values of three words; every constraint i goes into three words of ext_evals from 3 i on. Else
+ * 8, 9, 2, 1, 14, 7 or 13. */
 uint64_t cir_eval_program_verifier(size_t n, size_t base_count, size_t ext_count, size_t root_count, size_t num_base,
                                    size_t steps, size_t main_width, size_t aux_width, size_t challenge_count,
                                    size_t alpha_count, uint64_t o0, uint64_t o1, uint64_t o2, const uint32_t *nodes,
@@ -115,7 +135,8 @@ uint64_t cir_eval_program_verifier(size_t n, size_t base_count, size_t ext_count
                                    const uint64_t *alphas, size_t alphas_len, uint64_t *ext_evals,
                                    size_t ext_evals_len, uint64_t *room, size_t room_len);
 
-/* one constraint over one row of base cells, into value */
+/* one constraint over one row of width base cells, into value; the step that a main cell names is not looked at, and any
+ * other leaf but a constant is outside. Else 8, 9, 2, 1, 6, 7, 13 or 12. */
 uint64_t cir_eval_program_base(size_t n, size_t base_count, size_t ext_count, size_t root_count, size_t num_base,
                                size_t width, size_t constraint, const uint32_t *nodes, size_t nodes_len,
                                const uint64_t *base_consts, size_t base_consts_len, const uint64_t *ext_consts,

@@ -1,5 +1,4 @@
-// The calls that a Rust or C host links; include/cir.h declares the field's. They move words between
-// the host's memory and the library, and refuse memory that is too short; every call takes every
-// input.
+// The calls that a Rust or C host links; include/cir.h declares them. They move words between the
+// host's memory and the library and decide nothing; every call takes every input.
 mod field_calls;
 mod program_calls;

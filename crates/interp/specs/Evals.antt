@@ -10,10 +10,11 @@ use Rattle.field.specs.Ext.{limb}
 use Rattle.field.specs.Tower.{goldilocks, remainders}
 use Rattle.interp.specs.Values.{Value, toExt}
 
--- a value as three words; a base value is the first of them
+-- a value as three words
 abbrev pub extWords : Value ℕ (List ℕ) → List ℕ
 extWords v = remainders 3 (toExt goldilocks v)
 
+-- a base value as one word
 abbrev pub baseWord : Value ℕ (List ℕ) → ℕ
 baseWord v = limb (extWords v) 0
 

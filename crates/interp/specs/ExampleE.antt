@@ -26,6 +26,7 @@ nodes =
     ∷ 6 ∷ 8 ∷ 5 ∷ 1
     ∷ []
 
+-- and its roots
 pub roots : List ℕ
 roots = 5 ∷ 9 ∷ []
 
@@ -47,6 +48,7 @@ marked =
     ∷ (extEvals env roots 1 2 (11 ∷ 12 ∷ 13 ∷ 14 ∷ 15 ∷ 16 ∷ []), 11 ∷ 12 ∷ 13 ∷ 61 ∷ 49 ∷ 28 ∷ [])
     ∷ []
 
+-- all rows at once
 pub marked-hold : map (λ (row : List ℕ × List ℕ). row .0) marked ≡ map (λ (row : List ℕ × List ℕ). row .1) marked
 unfolding marked env frame roots nodes baseEvals extEvals values nodeValue leafValue operationValue upd remainders sums minuses embedded product
 marked-hold = refl

@@ -15,10 +15,11 @@ use Rattle.interp.specs.declared.frame.Limits.{Limits}
 use Rattle.interp.specs.declared.frame.Strides.{Strides}
 use Rattle.interp.specs.Values.{Value, base, ext, Leaves}
 
--- a base value, and an extension value, of a lent table
+-- base value k of a lent table
 abbrev pub word : List ℕ → ℕ → ℕ
 word l k = getD l k 0 % p
 
+-- extension value k of a lent table
 abbrev pub triple : List ℕ → ℕ → List ℕ
 triple l k = remainders 3 (block 3 l k)
 
@@ -32,6 +33,7 @@ pub record Lent : Type 0 where
   pub alphas : List ℕ
   pub offset : List ℕ
 
+-- the same by its parts
 abbrev pub lent : (bases exts main aux challenges alphas offset : List ℕ) → Lent
 lent bases exts main aux challenges alphas offset =
     record { bases = bases; exts = exts; main = main; aux = aux; challenges = challenges; alphas = alphas; offset = offset }
@@ -44,6 +46,7 @@ rowLent bases exts row = lent bases exts row [] [] [] (0 ∷ 0 ∷ 0 ∷ [])
 abbrev pub mainCell : Bool → ℕ → List ℕ → ℕ → ℕ → Value ℕ (List ℕ)
 mainCell wide stride main step col = cond wide (ext (triple main (step * stride + col))) (base (word main (step * stride + col)))
 
+-- what each leaf names
 abbrev pub leaves : Strides → Lent → Leaves ℕ (List ℕ)
 leaves s l =
     record {
@@ -56,28 +59,31 @@ leaves s l =
       offset = remainders 3 (l .offset);
     }
 
--- the plain evaluator's frame; the verifier's, whose main cells are extension values; and one row, where the offset of a
--- main cell is ignored: every step is the same row
+-- the plain evaluator's frame
 abbrev pub proverStrides : Shape → Strides
 proverStrides s = record { wide = false; main = s .main; aux = s .aux }
 
+-- the verifier's, whose main cells are extension values
 abbrev pub verifierStrides : Shape → Strides
 verifierStrides s = record { wide = true; main = s .main; aux = s .aux }
 
+-- one row, where the offset of a main cell is ignored: every step is the same row
 abbrev pub rowStrides : Strides
 rowStrides = record { wide = false; main = 0; aux = 0 }
 
--- ---- what a leaf asks of the lent memory
+-- ---- what a leaf asks of the lent memory: for inner functions, no public promise cites it
 
 -- cell `at` of the main trace
 pub record MainIn (wide : Bool) (at size : ℕ) : Type 0 where
   pub ext-cell : wide ≡ true → 3 * at + 3 ≤ size
   pub base-cell : wide ≡ false → at < size
 
+-- a cell, main or aux
 pub record CellIn (s : Strides) (x y main aux : ℕ) : Type 0 where
   pub main-cell : mainOf y ≡ true → MainIn (s .wide) (offsetOf y * s .main + x) main
   pub aux-cell : mainOf y ≡ false → 3 * (offsetOf y * s .aux + x) + 3 ≤ aux
 
+-- a leaf, by its tag
 pub record LeafIn (s : Strides) (tag x y : ℕ) (l : Lent) : Type 0 where
   pub base-const : tag ≡ constBase → x < length (l .bases)
   pub ext-const : tag ≡ constExt → 3 * x + 3 ≤ length (l .exts)
@@ -100,12 +106,14 @@ outside m tag x y =
     (cond (eqb tag tableOffset) (eqb (m .offsets) 0)
     false)))
 
+-- node i outside
 abbrev pub nodeOutside : Limits → List ℕ → ℕ → Bool
 nodeOutside m nodes i = let w = nodeAt nodes i in outside m (w .tag) (w .x) (w .y)
 
--- a frame has its table offset; one row has main cells at any offset and nothing else
+-- a frame has its table offset
 abbrev pub frameLimits : Shape → Limits
 frameLimits s = record { steps = s .steps; main = s .main; aux = s .aux; challenges = s .challenges; alphas = s .alphas; offsets = 1 }
 
+-- one row has main cells at any offset and nothing else
 abbrev pub rowLimits : ℕ → Limits
 rowLimits width = record { steps = 256; main = width; aux = 0; challenges = 0; alphas = 0; offsets = 0 }

@@ -1,4 +1,5 @@
--- The three binary operations on words, by tag, as the field promises them; and what an operation on the room gives.
+-- The three binary operations on words, by tag, as the field promises them; and what an operation on the room gives. For
+-- inner functions: no public promise cites it.
 -- Assumes nothing.
 use mathlib.Core.Bool.{cond}
 use mathlib.Core.List.{List}
@@ -15,9 +16,11 @@ use Rattle.interp.specs.Frame.{Lent, leaves, LeafIn}
 use Rattle.interp.specs.Values.{Value, operationValue, nodeValue}
 use Rattle.interp.specs.Room.{Stands, ValueIs}
 
+-- on base words
 unfoldable pub baseOp : ℕ → ℕ → ℕ → ℕ
 baseOp tag a b = cond (eqb tag add) (a + b) (cond (eqb tag sub) (a + minus b) (a * b))
 
+-- on extension words
 unfoldable pub extOp : ℕ → List ℕ → List ℕ → List ℕ
 extOp tag a b = cond (eqb tag add) (sums 3 a b) (cond (eqb tag sub) (sums 3 a (minuses 3 b)) (product a b))
 
@@ -33,12 +36,14 @@ pub record Operates (room : List ℕ) (tag x y class : ℕ) (limbs : List ℕ) :
 
 -- ---- what the evaluation of a node asks, and gives
 
+-- what it asks
 pub record NodeReady (s : Strides) (l : Lent) (i tag x y : ℕ) : Type 0 where
   pub known : tag ≤ embed
   pub leaf-in : tag < add → LeafIn s tag x y l
   pub first-operand : add ≤ tag → x < i
   pub second-operand : add ≤ tag → tag < neg → y < i
 
+-- what it gives, whatever values the operands' words stand for
 pub record Computes (s : Strides) (l : Lent) (room : List ℕ) (tag x y class : ℕ) (limbs : List ℕ) : Type 0 where
   pub follows :
       (env : ℕ → Value ℕ (List ℕ)) → (add ≤ tag → StandsIn room (env x) x) → (add ≤ tag → tag < neg → StandsIn room (env y) y)

@@ -41,6 +41,7 @@ module _ {B X : Type 0} (K : Tower B X) where
   binop f g (base a) (ext y) = ext (g (K .embed a) y)
   binop f g (ext x) w = ext (g x (toExt w))
 
+  -- the class of the operand
   abbrev pub unop : (B → B) → (X → X) → Value B X → Value B X
   unop f g (base a) = base (f a)
   unop f g (ext x) = ext (g x)
@@ -64,10 +65,11 @@ module _ {B X : Type 0} (K : Tower B X) where
       (cond (eqb tag neg) (unop (K .neg₀) (K .neg₁) (env x))
       (ext (toExt (env x))))))
 
+  -- a node, by its tag
   unfoldable pub nodeValue : Leaves B X → (ℕ → Value B X) → ℕ → ℕ → ℕ → Value B X
   nodeValue u env tag x y = cond (ltb tag add) (leafValue u tag x y) (operationValue env tag x y)
 
-  -- the values of the first k nodes, and nothing said of the others
+  -- the values of the first k nodes; the others are 0 here, and nobody reads them
   unfoldable pub values : Leaves B X → List ℕ → ℕ → ℕ → Value B X
   values u nodes zero = λ j. base (K .zero)
   values u nodes (suc k) =

@@ -1,4 +1,4 @@
--- What the writing of the roots asks and does.
+-- What the writing of the roots asks and does. For inner functions: no public promise cites it.
 -- Assumes nothing.
 use mathlib.Core.Bool.{cond}
 use mathlib.Core.List.{List}
@@ -12,6 +12,7 @@ use Rattle.interp.specs.Evals.{baseWord, extWords, baseEvals, extEvals}
 use Rattle.interp.specs.Room.{RoomHolds}
 use Rattle.interp.specs.Operations.{StandsIn}
 
+-- what one root asks
 pub record RootIn (c leading root room bases exts : ℕ) : Type 0 where
   pub held : 4 * root + 4 ≤ room
   pub base-place : c < leading → c < bases
@@ -25,10 +26,12 @@ pub record WritesRoot (c leading root : ℕ) (room bases bases′ exts exts′ :
   pub bases-long : length bases′ ≡ length bases
   pub exts-long : length exts′ ≡ length exts
 
+-- what all roots ask
 pub record RootsIn (count leading : ℕ) (roots : List ℕ) (room bases exts : ℕ) : Type 0 where
   pub roots-long : count ≤ length roots
   pub root : (c : ℕ) → c < count → RootIn c leading (getD roots c 0) room bases exts
 
+-- whatever values the roots' words stand for, they are written
 pub record WritesRoots (count leading : ℕ) (roots room bases bases′ exts exts′ : List ℕ) : Type 0 where
   pub follows :
       (env : ℕ → Value ℕ (List ℕ)) → ((c : ℕ) → c < count → StandsIn room (env (getD roots c 0)) (getD roots c 0))

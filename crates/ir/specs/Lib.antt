@@ -1,4 +1,4 @@
--- What the program's contracts cite.
+-- What a program is, and what its calls promise.
 pub mod Bytes
 pub mod Marks
 pub mod Program

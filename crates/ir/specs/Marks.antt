@@ -30,6 +30,7 @@ isMarked map c = eqb (getD map c 0) 1
 abbrev pub listedSaid : List ℕ → ℕ → Said
 listedSaid columns room = first (row (ltb room (length columns)) 10 ∷ []) (gives (length columns ∷ []))
 
+-- what the last part of the call says and writes, given the columns
 pub record Listing (columns old new : List ℕ) (answer : Columns) : Type 0 where
   pub said : saidOfColumns answer ≡ listedSaid columns (length old)
   pub words : new ≡ onDone (listedSaid columns (length old)) (sets old 0 columns) old

@@ -25,24 +25,28 @@ numBase c = c .«num_base»
 
 -- ---- 8, 9 and 1
 
--- the most nodes and constants, 2^29 - 1, and the most that 32 bits hold
+-- the most nodes and constants, 2^29 - 1
 abbrev pub most : ℕ
 most = 536870911
 
+-- the most that 32 bits hold
 abbrev pub most32 : ℕ
 most32 = 4294967295
 
+-- 8: nodes or constants
 unfoldable pub tooManyNodes : Counts → Bool
 tooManyNodes c = ltb most (c .nodes) || ltb most (c .bases) || ltb most (c .exts)
 
+-- 9: num_base or roots
 unfoldable pub tooManyRoots : Counts → Bool
 tooManyRoots c = ltb most32 (numBase c) || ltb most32 (c .roots)
 
--- the four tables, by the words lent for each
+-- 1: the four tables, by the words lent for each
 unfoldable pub shortTables : Counts → ℕ → ℕ → ℕ → ℕ → Bool
 shortTables c nodes bases exts roots =
     ltb nodes (4 * c .nodes) || ltb bases (c .bases) || ltb exts (3 * c .exts) || ltb roots (c .roots)
 
+-- the same of the words that were lent
 abbrev pub shortProgram : Program → Bool
 shortProgram p = shortTables (p .counts) (length (p .nodes)) (length (p .bases)) (length (p .exts)) (length (p .roots))
 
@@ -65,7 +69,8 @@ leafOk c w =
     (cond (eqb (w .tag) tableOffset) (eqb (w .x) 0 && eqb (w .y) 0 && eqb (w .dim) 1)
     (ltb (w .x) 65536 && eqb (w .y) 0 && eqb (w .dim) 1))))
 
--- operations: operand ids below the node's own; Neg keeps its operand's dim, Embed is extension
+-- operations: operand ids below the node's own, and an unused word 0; Neg keeps its operand's dim, Embed is extension; no
+-- other tag is known
 unfoldable pub operationOk : List ℕ → ℕ → Node → Bool
 operationOk nodes i w =
     ltb (w .x) i
@@ -85,6 +90,7 @@ illFormed c nodes roots =
 
 -- ---- the program check
 
+-- its refusals in order
 abbrev pub checkRows : Program → List Row
 checkRows p =
     row (tooManyNodes (p .counts)) 8
@@ -93,5 +99,6 @@ checkRows p =
     ∷ rowAt (illFormed (p .counts) (p .nodes) (p .roots)) 7
     ∷ []
 
+-- what it says
 unfoldable pub checked : Program → Said
 checked p = first (checkRows p) (gives [])

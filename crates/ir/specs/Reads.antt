@@ -42,6 +42,7 @@ readsColumn nodes width c i = readsNext (nodeAt nodes i) && eqb (columnAt width 
 unfoldable pub columnsRead : List ℕ → ℕ → ℕ → List ℕ
 columnsRead nodes n width = allBelow (λ c. anyBelow (readsColumn nodes width c) n) (width + mostColumns)
 
+-- the same of a program
 abbrev pub columnsOf : Program → ℕ → List ℕ
 columnsOf p width = columnsRead (p .nodes) (p .counts .nodes) width
 
@@ -63,6 +64,7 @@ readsRows p width room =
     ∷ row (ltb room (length (columnsOf p width))) 10
     ∷ []
 
+-- what the call says
 unfoldable pub readsSaid : Program → ℕ → ℕ → Said
 readsSaid p width room = first (readsRows p width room) (gives (length (columnsOf p width) ∷ []))
 

@@ -18,9 +18,11 @@ pub record Said : Type 0 where
   pub place : ℕ
   pub values : List ℕ
 
+-- 0 with its values
 abbrev pub gives : List ℕ → Said
 gives vs = record { number = 0; place = 0; values = vs }
 
+-- a number with its place
 abbrev pub refuses : ℕ → ℕ → Said
 refuses n at = record { number = n; place = at; values = [] }
 
@@ -42,6 +44,7 @@ saidOf (LeafOutside at) = refuses 13 at
 saidOf ShortEvals = refuses 14 0
 saidOf BadFraming = refuses 15 0
 
+-- the same of an answer that is done or refused
 abbrev pub saidOfOutcome : Outcome → Said
 saidOfOutcome Done = gives []
 saidOfOutcome (Refused r) = saidOf r
@@ -53,7 +56,7 @@ placeOf Nowhere = none
 
 -- ---- the order
 
--- the orders in which document 01 has the numbers tested; a call skips those that do not apply
+-- the order in which document 01 has the numbers of program calls tested; a call skips those that do not apply
 abbrev pub programOrder : List ℕ
 programOrder = 8 ∷ 9 ∷ 2 ∷ 1 ∷ 14 ∷ 6 ∷ 7 ∷ 13 ∷ 12 ∷ 10 ∷ []
 
@@ -67,15 +70,17 @@ pub record Row : Type 0 where
 abbrev pub row : Bool → ℕ → Row
 row b n = record { holds = b; number = n; place = 0 }
 
--- a row that holds where a place was found
+-- whether a search found a place
 abbrev pub found : Option ℕ → Bool
 found none = false
 found (some i) = true
 
+-- the place that it found
 abbrev pub foundAt : Option ℕ → ℕ
 foundAt none = 0
 foundAt (some i) = i
 
+-- a row that holds where a search finds a place, and names it
 abbrev pub rowAt : Option ℕ → ℕ → Row
 rowAt o n = record { holds = found o; number = n; place = foundAt o }
 
@@ -84,7 +89,7 @@ abbrev pub first : List Row → Said → Said
 first [] s = s
 first (r ∷ rs) s = cond (r .holds) (refuses (r .number) (r .place)) (first rs s)
 
--- whether any row holds: then every lent word but a borrowed room stays as it was
+-- whether a call refuses
 abbrev pub anyHolds : List Row → Bool
 anyHolds [] = false
 anyHolds (r ∷ rs) = r .holds || anyHolds rs

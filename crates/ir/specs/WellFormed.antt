@@ -1,5 +1,5 @@
--- What is known of a program that the check lets through, node by node. `WellFormedLaws` of proofs/ shows that it is the
--- check's own test, both ways round.
+-- A second reading of well-formed, by facts, node by node: what is known of a program that the check lets through.
+-- `WellFormedLaws` of proofs/ shows that it is the check's own test, both ways round. No public promise cites it.
 -- Assumes nothing.
 use mathlib.Core.Bool.{cond}
 use mathlib.Core.List.{List}
@@ -23,6 +23,7 @@ pub record NodeFacts (c : Counts) (nodes : List ℕ) (i : ℕ) (w : Node) : Type
   pub negation : w .tag ≡ neg → (w .x < i) × (w .y ≡ 0) × (w .dim ≡ nodeAt nodes (w .x) .dim)
   pub embedding : w .tag ≡ embed → (w .x < i) × (w .y ≡ 0) × (w .dim ≡ 1)
 
+-- a program: its nodes and its roots
 pub record WellFormed (c : Counts) (nodes roots : List ℕ) : Type 0 where
   pub node : (i : ℕ) → i < c .nodes → NodeFacts c nodes i (nodeAt nodes i)
   pub root : (r : ℕ) → r < c .roots → getD roots r 0 < c .nodes

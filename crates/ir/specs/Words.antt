@@ -58,21 +58,27 @@ embed = 10
 abbrev pub mainOf : ℕ → Bool
 mainOf y = not (eqb (y / 65536 % 2) 0)
 
+-- the step that it reads
 abbrev pub offsetOf : ℕ → ℕ
 offsetOf y = y / 256 % 256
 
+-- its row
 abbrev pub rowOf : ℕ → ℕ
 rowOf y = y % 256
 
+-- its column
 abbrev pub columnOf : ℕ → ℕ
 columnOf x = x % 65536
 
+-- a mark as a number
 abbrev pub bit : Bool → ℕ
 bit b = cond b 1 0
 
+-- a cell as two words, as `pack_var` makes them
 abbrev pub packed : Var → Packed
 packed v = record { a = v .col; b = bit (v .main) * 65536 + v .offset * 256 + v .row }
 
+-- the cell that two words name, as `unpack_var` reads them: other bits are not looked at
 abbrev pub unpacked : Packed → Var
 unpacked w =
     record { main = mainOf (w .b); offset = offsetOf (w .b); row = rowOf (w .b); col = columnOf (w .a) }

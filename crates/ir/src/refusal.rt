@@ -1,5 +1,5 @@
-// Why a call refuses: one case for each row of document 01's table. A case with a place names the lowest node,
-// else the lowest root, that is at fault.
+// Why a call refuses: one case for each row of document 01's table. A case with a place names what is at fault: in 7
+// and 11 the lowest node, else the lowest root; in 12 the constraint; in 13 the lowest node.
 pub enum Refusal {
     // 1: lent memory is shorter than counts or shape need.
     ShortMemory,
@@ -19,7 +19,7 @@ pub enum Refusal {
     TooManyNodes,
     // 9: num_base or the root count does not fit 32 bits.
     TooManyRoots,
-    // 10: output room is too short.
+    // 10: output room is too short, or a stored body has over 4,294,967,295 words.
     ShortOutput,
     // 11: the blob is illegal.
     IllegalBlob { place: usize },
@@ -29,7 +29,7 @@ pub enum Refusal {
     LeafOutside { place: usize },
     // 14: eval buffers are too short.
     ShortEvals,
-    // 15: a stored form is not as its counts say.
+    // 15: a stored form is under 32 bytes, or its distance or length is not as its counts say.
     BadFraming,
 }
 
