@@ -60,6 +60,39 @@ fn coded_outcome(o: Outcome) -> u64
     }
 }
 
+// The library's structs, from the numbers that a call is given.
+fn counts_of(n: usize, b: usize, x: usize, r: usize, leading: usize) -> Counts
+    ensures { λ c. ⌜ c ≡ counts n b x r leading ⌝ }
+{
+    Counts {
+        nodes: n,
+        bases: b,
+        exts: x,
+        roots: r,
+        num_base: leading,
+    }
+}
+
+fn shape_of(steps: usize, width: usize, auxes: usize, rap: usize, powers: usize) -> Shape
+    ensures { λ s. ⌜ s ≡ shape steps width auxes rap powers ⌝ }
+{
+    Shape {
+        steps,
+        main: width,
+        aux: auxes,
+        challenges: rap,
+        alphas: powers,
+    }
+}
+
+fn offset_of(o0: u64, o1: u64, o2: u64) -> Ext
+    ensures { λ e. ⌜ e .limbs ≡ o0 ∷ o1 ∷ o2 ∷ [] ⌝ }
+{
+    Ext {
+        limbs: [o0, o1, o2],
+    }
+}
+
 #[no_mangle]
 pub extern "C" fn cir_check_program(
     n: usize,
@@ -74,13 +107,7 @@ pub extern "C" fn cir_check_program(
 ) -> u64
     ensures { λ a. ⌜ a ≡ answerOf (checked (record { counts = counts n b x r leading; nodes = now (nodes .entry); bases = now (bases .entry); exts = now (exts .entry); roots = now (roots .entry) })) ⌝ }
 {
-    let c = Counts {
-        nodes: n,
-        bases: b,
-        exts: x,
-        roots: r,
-        num_base: leading,
-    };
+    let c = counts_of(n, b, x, r, leading);
     coded_outcome(check_program(c, nodes, bases, exts, roots))
 }
 
@@ -113,27 +140,10 @@ pub extern "C" fn cir_eval_program(
 ) -> u64
     ensures { λ a. ⌜ Called (λ o. ProverAnswer (counts n b x r leading) (shape steps width auxes rap powers) (now (nodes .entry)) (now (roots .entry)) (lent (now (bases .entry)) (now (exts .entry)) (now (main .entry)) (now (aux .entry)) (now (challenges .entry)) (now (alphas .entry)) (o0 ∷ o1 ∷ o2 ∷ [])) o (now (base .entry)) (now (base .exit)) (now (ext .entry)) (now (ext .exit)) (now (room .entry)) (now (room .exit))) a ⌝ }
 {
-    let c = Counts {
-        nodes: n,
-        bases: b,
-        exts: x,
-        roots: r,
-        num_base: leading,
-    };
-    let s = Shape {
-        steps,
-        main: width,
-        aux: auxes,
-        challenges: rap,
-        alphas: powers,
-    };
-    let offset = Ext {
-        limbs: [o0, o1, o2],
-    };
-    let o = eval_program(
-        c,
-        s,
-        offset,
+    coded_outcome(eval_program(
+        counts_of(n, b, x, r, leading),
+        shape_of(steps, width, auxes, rap, powers),
+        offset_of(o0, o1, o2),
         nodes,
         bases,
         exts,
@@ -142,11 +152,10 @@ pub extern "C" fn cir_eval_program(
         aux,
         challenges,
         alphas,
-        &mut base[..],
-        &mut ext[..],
-        &mut room[..],
-    );
-    coded_outcome(o)
+        base,
+        ext,
+        room,
+    ))
 }
 
 #[no_mangle]
@@ -177,27 +186,10 @@ pub extern "C" fn cir_eval_program_verifier(
 ) -> u64
     ensures { λ a. ⌜ Called (λ o. VerifierAnswer (counts n b x r leading) (shape steps width auxes rap powers) (now (nodes .entry)) (now (roots .entry)) (lent (now (bases .entry)) (now (exts .entry)) (now (main .entry)) (now (aux .entry)) (now (challenges .entry)) (now (alphas .entry)) (o0 ∷ o1 ∷ o2 ∷ [])) o (now (ext .entry)) (now (ext .exit)) (now (room .entry)) (now (room .exit))) a ⌝ }
 {
-    let c = Counts {
-        nodes: n,
-        bases: b,
-        exts: x,
-        roots: r,
-        num_base: leading,
-    };
-    let s = Shape {
-        steps,
-        main: width,
-        aux: auxes,
-        challenges: rap,
-        alphas: powers,
-    };
-    let offset = Ext {
-        limbs: [o0, o1, o2],
-    };
-    let o = eval_program_verifier(
-        c,
-        s,
-        offset,
+    coded_outcome(eval_program_verifier(
+        counts_of(n, b, x, r, leading),
+        shape_of(steps, width, auxes, rap, powers),
+        offset_of(o0, o1, o2),
         nodes,
         bases,
         exts,
@@ -206,10 +198,9 @@ pub extern "C" fn cir_eval_program_verifier(
         aux,
         challenges,
         alphas,
-        &mut ext[..],
-        &mut room[..],
-    );
-    coded_outcome(o)
+        ext,
+        room,
+    ))
 }
 
 #[no_mangle]
@@ -231,24 +222,8 @@ pub extern "C" fn cir_eval_program_base(
 ) -> u64
     ensures { λ a. ⌜ CalledBase (λ o. RowAnswer (counts n b x r leading) width asked (now (nodes .entry)) (now (roots .entry)) (rowLent (now (bases .entry)) (now (exts .entry)) (now (row .entry))) o (now (room .entry)) (now (room .exit))) a (now (value .entry)) (now (value .exit)) ⌝ }
 {
-    let c = Counts {
-        nodes: n,
-        bases: b,
-        exts: x,
-        roots: r,
-        num_base: leading,
-    };
-    match eval_program_base(
-        c,
-        width,
-        asked,
-        nodes,
-        bases,
-        exts,
-        roots,
-        row,
-        &mut room[..],
-    ) {
+    let c = counts_of(n, b, x, r, leading);
+    match eval_program_base(c, width, asked, nodes, bases, exts, roots, row, room) {
         Evaluated::Base(v) => {
             *value = v;
             0
@@ -274,14 +249,8 @@ pub extern "C" fn cir_next_row_trace_reads(
 ) -> u64
     ensures { λ a. ⌜ CalledReads (λ o. ReadsAnswer (record { counts = counts n b x r leading; nodes = now (nodes .entry); bases = now (bases .entry); exts = now (exts .entry); roots = now (roots .entry) }) width (now (out .entry)) (now (out .exit)) o) a (now (count .entry)) (now (count .exit)) ⌝ }
 {
-    let c = Counts {
-        nodes: n,
-        bases: b,
-        exts: x,
-        roots: r,
-        num_base: leading,
-    };
-    match next_row_trace_reads(c, width, nodes, bases, exts, roots, &mut out[..]) {
+    let c = counts_of(n, b, x, r, leading);
+    match next_row_trace_reads(c, width, nodes, bases, exts, roots, out) {
         Columns::Listed { count: listed } => {
             *count = listed as u64;
             0

@@ -6,6 +6,9 @@ use borrow.Author.Needs.{needs}
 use Rattle.host.proofs.program_calls.cir_check_program.Statement.{statement}
 use Rattle.host.proofs.program_calls.cir_check_program.Tie as tie
 
+counts-of-requires : tie.Need-counts-of-requires
+counts-of-requires c κs = search needs
+
 check-program-requires : tie.Need-check-program-requires
 check-program-requires c κs = search needs
 
@@ -13,7 +16,8 @@ coded-outcome-requires : tie.Need-coded-outcome-requires
 coded-outcome-requires c κs = search needs
 
 returns : tie.Need-returns
-returns c = c .coded-outcome .ensures ∙ ap answerOf (c .before .check-program .ensures)
+returns c =
+    c .coded-outcome .ensures ∙ ap answerOf (rw (c .before .before .counts-of .ensures) at (c .before .check-program .ensures))
 
 pub cir-check-program-spec : {M : Type 1} → statement M
-cir-check-program-spec = tie.close (tie.spec check-program-requires coded-outcome-requires returns)
+cir-check-program-spec = tie.close (tie.spec counts-of-requires check-program-requires coded-outcome-requires returns)
