@@ -27,137 +27,90 @@ unsafe extern "C" {
 
     pub fn cir_ext_mul_each(xs: *mut u64, n: usize, ys: *const u64, m: usize) -> u64;
     pub fn cir_ext_mul_chain(x: *mut u64, n: usize, ys: *const u64, m: usize) -> u64;
-
-    pub fn cir_check_program(
-        n: usize,
-        base_count: usize,
-        ext_count: usize,
-        root_count: usize,
-        num_base: usize,
-        nodes: *const u32,
-        nodes_len: usize,
-        base_consts: *const u64,
-        base_consts_len: usize,
-        ext_consts: *const u64,
-        ext_consts_len: usize,
-        roots: *const u32,
-        roots_len: usize,
-    ) -> u64;
-
-    pub fn cir_next_row_trace_reads(
-        n: usize,
-        base_count: usize,
-        ext_count: usize,
-        root_count: usize,
-        num_base: usize,
-        main_width: usize,
-        nodes: *const u32,
-        nodes_len: usize,
-        base_consts: *const u64,
-        base_consts_len: usize,
-        ext_consts: *const u64,
-        ext_consts_len: usize,
-        roots: *const u32,
-        roots_len: usize,
-        out: *mut u32,
-        out_len: usize,
-        count: *mut u64,
-    ) -> u64;
-
-    pub fn cir_eval_program(
-        n: usize,
-        base_count: usize,
-        ext_count: usize,
-        root_count: usize,
-        num_base: usize,
-        steps: usize,
-        main_width: usize,
-        aux_width: usize,
-        challenge_count: usize,
-        alpha_count: usize,
-        o0: u64,
-        o1: u64,
-        o2: u64,
-        nodes: *const u32,
-        nodes_len: usize,
-        base_consts: *const u64,
-        base_consts_len: usize,
-        ext_consts: *const u64,
-        ext_consts_len: usize,
-        roots: *const u32,
-        roots_len: usize,
-        main: *const u64,
-        main_len: usize,
-        aux: *const u64,
-        aux_len: usize,
-        challenges: *const u64,
-        challenges_len: usize,
-        alphas: *const u64,
-        alphas_len: usize,
-        base_evals: *mut u64,
-        base_evals_len: usize,
-        ext_evals: *mut u64,
-        ext_evals_len: usize,
-        room: *mut u64,
-        room_len: usize,
-    ) -> u64;
-
-    pub fn cir_eval_program_base(
-        n: usize,
-        base_count: usize,
-        ext_count: usize,
-        root_count: usize,
-        num_base: usize,
-        width: usize,
-        constraint: usize,
-        nodes: *const u32,
-        nodes_len: usize,
-        base_consts: *const u64,
-        base_consts_len: usize,
-        ext_consts: *const u64,
-        ext_consts_len: usize,
-        roots: *const u32,
-        roots_len: usize,
-        row: *const u64,
-        row_len: usize,
-        room: *mut u64,
-        room_len: usize,
-        value: *mut u64,
-    ) -> u64;
-
-    pub fn cir_eval_program_verifier(
-        n: usize,
-        base_count: usize,
-        ext_count: usize,
-        root_count: usize,
-        num_base: usize,
-        steps: usize,
-        main_width: usize,
-        aux_width: usize,
-        challenge_count: usize,
-        alpha_count: usize,
-        o0: u64,
-        o1: u64,
-        o2: u64,
-        nodes: *const u32,
-        nodes_len: usize,
-        base_consts: *const u64,
-        base_consts_len: usize,
-        ext_consts: *const u64,
-        ext_consts_len: usize,
-        roots: *const u32,
-        roots_len: usize,
-        main: *const u64,
-        main_len: usize,
-        aux: *const u64,
-        aux_len: usize,
-        challenges: *const u64,
-        challenges_len: usize,
-        alphas: *const u64,
-        alphas_len: usize,
-        ext_evals: *mut u64,
-        ext_evals_len: usize,
-        room: *mut u64,
-        room_len: usize,
-    ) -> u64;
 }
+
+/// Declares a call on a program: counts, numbers of its own, the program's tables, memory of its own.
+macro_rules! on_program {
+    (fn $call:ident($($number:ident: $word:ty),*; $($memory:ident: $pointer_or_len:ty),*)) => {
+        unsafe extern "C" {
+            pub fn $call(
+                n: usize,
+                base_count: usize,
+                ext_count: usize,
+                root_count: usize,
+                num_base: usize,
+                $($number: $word,)*
+                nodes: *const u32,
+                nodes_len: usize,
+                base_consts: *const u64,
+                base_consts_len: usize,
+                ext_consts: *const u64,
+                ext_consts_len: usize,
+                roots: *const u32,
+                roots_len: usize,
+                $($memory: $pointer_or_len,)*
+            ) -> u64;
+        }
+    };
+}
+
+/// Declares a call on a program and a frame: the frame's shape and table offset are its numbers, the frame's tables the
+/// first of its memory.
+macro_rules! on_frame {
+    (fn $call:ident($($written:ident: $pointer_or_len:ty),*)) => {
+        on_program!(fn $call(
+            steps: usize,
+            main_width: usize,
+            aux_width: usize,
+            challenge_count: usize,
+            alpha_count: usize,
+            o0: u64,
+            o1: u64,
+            o2: u64;
+            main: *const u64,
+            main_len: usize,
+            aux: *const u64,
+            aux_len: usize,
+            challenges: *const u64,
+            challenges_len: usize,
+            alphas: *const u64,
+            alphas_len: usize
+            $(, $written: $pointer_or_len)*
+        ));
+    };
+}
+
+on_program!(fn cir_check_program(;));
+
+on_program!(fn cir_next_row_trace_reads(
+    main_width: usize;
+    out: *mut u32,
+    out_len: usize,
+    count: *mut u64
+));
+
+on_program!(fn cir_eval_program_base(
+    width: usize,
+    constraint: usize;
+    row: *const u64,
+    row_len: usize,
+    room: *mut u64,
+    room_len: usize,
+    value: *mut u64
+));
+
+on_frame!(fn cir_eval_program(
+    base_evals: *mut u64,
+    base_evals_len: usize,
+    ext_evals: *mut u64,
+    ext_evals_len: usize,
+    room: *mut u64,
+    room_len: usize
+));
+
+on_frame!(fn cir_eval_program_verifier(
+    ext_evals: *mut u64,
+    ext_evals_len: usize,
+    room: *mut u64,
+    room_len: usize
+));

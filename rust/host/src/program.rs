@@ -69,24 +69,19 @@ pub struct Frame<'a> {
     pub table_offset: [u64; 3],
 }
 
-/// Whether the program is well-formed. Refusals: 8, 9, 1, 7.
-pub fn check_program(program: &Program) -> Result<(), Refusal> {
-    let Counts {
-        nodes,
-        base_consts,
-        ext_consts,
-        roots,
-        num_base,
-    } = program.counts;
-    // SAFETY: the library reads inside the lent slices only and writes nothing. Each pointer and length are of one
-    // slice; counts that say more than the slices hold are refused.
-    done(unsafe {
-        calls::cir_check_program(
-            nodes,
-            base_consts,
-            ext_consts,
-            roots,
-            num_base,
+/// Calls the library on a program, with the call's own numbers and memory. A slice goes as pointer and length, so C's
+/// parameters are many: they stand here once for all calls.
+macro_rules! on_program {
+    ($call:ident, $program:expr, [$($number:expr),*], [$($memory:expr),*]) => {{
+        let program: &Program = $program;
+        let counts = program.counts;
+        calls::$call(
+            counts.nodes,
+            counts.base_consts,
+            counts.ext_consts,
+            counts.roots,
+            counts.num_base,
+            $($number,)*
             program.nodes.as_ptr(),
             program.nodes.len(),
             program.base_consts.as_ptr(),
@@ -95,8 +90,41 @@ pub fn check_program(program: &Program) -> Result<(), Refusal> {
             program.ext_consts.len(),
             program.roots.as_ptr(),
             program.roots.len(),
+            $($memory,)*
         )
-    })
+    }};
+}
+
+/// Calls the library on a program and a frame, with the memory that the call writes.
+macro_rules! on_frame {
+    ($call:ident, $program:expr, $frame:expr, [$($written:expr),*]) => {{
+        let frame: &Frame = $frame;
+        let shape = frame.shape;
+        let [o0, o1, o2] = frame.table_offset;
+        on_program!(
+            $call,
+            $program,
+            [shape.steps, shape.main_width, shape.aux_width, shape.challenges, shape.alphas, o0, o1, o2],
+            [
+                frame.main.as_ptr(),
+                frame.main.len(),
+                frame.aux.as_ptr(),
+                frame.aux.len(),
+                frame.challenges.as_ptr(),
+                frame.challenges.len(),
+                frame.alphas.as_ptr(),
+                frame.alphas.len()
+                $(, $written)*
+            ]
+        )
+    }};
+}
+
+/// Whether the program is well-formed. Refusals: 8, 9, 1, 7.
+pub fn check_program(program: &Program) -> Result<(), Refusal> {
+    // SAFETY: the library reads inside the lent slices only and writes nothing. Each pointer and length are of one
+    // slice; counts that say more than the slices hold are refused.
+    done(unsafe { on_program!(cir_check_program, program, [], []) })
 }
 
 /// Writes the columns that some node reads at a step past the first into the beginning of `out`, ascending and each
@@ -115,34 +143,14 @@ pub fn next_row_trace_reads_into(
     out: &mut [u32],
     count: &mut u64,
 ) -> Result<(), Refusal> {
-    let Counts {
-        nodes,
-        base_consts,
-        ext_consts,
-        roots,
-        num_base,
-    } = program.counts;
     // SAFETY: the library reads inside the lent slices only and writes inside `out` and `count` only, which nobody else
     // holds meanwhile. Each pointer and length are of one slice; counts that say more than the slices hold are refused.
     done(unsafe {
-        calls::cir_next_row_trace_reads(
-            nodes,
-            base_consts,
-            ext_consts,
-            roots,
-            num_base,
-            main_width,
-            program.nodes.as_ptr(),
-            program.nodes.len(),
-            program.base_consts.as_ptr(),
-            program.base_consts.len(),
-            program.ext_consts.as_ptr(),
-            program.ext_consts.len(),
-            program.roots.as_ptr(),
-            program.roots.len(),
-            out.as_mut_ptr(),
-            out.len(),
-            count,
+        on_program!(
+            cir_next_row_trace_reads,
+            program,
+            [main_width],
+            [out.as_mut_ptr(), out.len(), count]
         )
     })
 }
@@ -162,61 +170,22 @@ pub fn eval_program(
     ext_evals: &mut [u64],
     room: &mut [u64],
 ) -> Result<(), Refusal> {
-    let Counts {
-        nodes,
-        base_consts,
-        ext_consts,
-        roots,
-        num_base,
-    } = program.counts;
-    let Shape {
-        steps,
-        main_width,
-        aux_width,
-        challenges,
-        alphas,
-    } = frame.shape;
-    let [o0, o1, o2] = frame.table_offset;
     // SAFETY: the library reads inside the lent slices only and writes inside the last three only, which nobody else
     // holds meanwhile. Each pointer and length are of one slice; counts and a shape that say more than the slices hold
     // are refused.
     done(unsafe {
-        calls::cir_eval_program(
-            nodes,
-            base_consts,
-            ext_consts,
-            roots,
-            num_base,
-            steps,
-            main_width,
-            aux_width,
-            challenges,
-            alphas,
-            o0,
-            o1,
-            o2,
-            program.nodes.as_ptr(),
-            program.nodes.len(),
-            program.base_consts.as_ptr(),
-            program.base_consts.len(),
-            program.ext_consts.as_ptr(),
-            program.ext_consts.len(),
-            program.roots.as_ptr(),
-            program.roots.len(),
-            frame.main.as_ptr(),
-            frame.main.len(),
-            frame.aux.as_ptr(),
-            frame.aux.len(),
-            frame.challenges.as_ptr(),
-            frame.challenges.len(),
-            frame.alphas.as_ptr(),
-            frame.alphas.len(),
-            base_evals.as_mut_ptr(),
-            base_evals.len(),
-            ext_evals.as_mut_ptr(),
-            ext_evals.len(),
-            room.as_mut_ptr(),
-            room.len(),
+        on_frame!(
+            cir_eval_program,
+            program,
+            frame,
+            [
+                base_evals.as_mut_ptr(),
+                base_evals.len(),
+                ext_evals.as_mut_ptr(),
+                ext_evals.len(),
+                room.as_mut_ptr(),
+                room.len()
+            ]
         )
     })
 }
@@ -248,38 +217,15 @@ pub fn eval_program_base_into(
     room: &mut [u64],
     value: &mut u64,
 ) -> Result<(), Refusal> {
-    let Counts {
-        nodes,
-        base_consts,
-        ext_consts,
-        roots,
-        num_base,
-    } = program.counts;
     // SAFETY: the library reads inside the lent slices only and writes inside `room` and `value` only, which nobody
     // else holds meanwhile. Each pointer and length are of one slice; counts and a width that say more than the slices
     // hold are refused.
     done(unsafe {
-        calls::cir_eval_program_base(
-            nodes,
-            base_consts,
-            ext_consts,
-            roots,
-            num_base,
-            width,
-            constraint,
-            program.nodes.as_ptr(),
-            program.nodes.len(),
-            program.base_consts.as_ptr(),
-            program.base_consts.len(),
-            program.ext_consts.as_ptr(),
-            program.ext_consts.len(),
-            program.roots.as_ptr(),
-            program.roots.len(),
-            row.as_ptr(),
-            row.len(),
-            room.as_mut_ptr(),
-            room.len(),
-            value,
+        on_program!(
+            cir_eval_program_base,
+            program,
+            [width, constraint],
+            [row.as_ptr(), row.len(), room.as_mut_ptr(), room.len(), value]
         )
     })
 }
@@ -295,59 +241,15 @@ pub fn eval_program_verifier(
     ext_evals: &mut [u64],
     room: &mut [u64],
 ) -> Result<(), Refusal> {
-    let Counts {
-        nodes,
-        base_consts,
-        ext_consts,
-        roots,
-        num_base,
-    } = program.counts;
-    let Shape {
-        steps,
-        main_width,
-        aux_width,
-        challenges,
-        alphas,
-    } = frame.shape;
-    let [o0, o1, o2] = frame.table_offset;
     // SAFETY: the library reads inside the lent slices only and writes inside the last two only, which nobody else
     // holds meanwhile. Each pointer and length are of one slice; counts and a shape that say more than the slices hold
     // are refused.
     done(unsafe {
-        calls::cir_eval_program_verifier(
-            nodes,
-            base_consts,
-            ext_consts,
-            roots,
-            num_base,
-            steps,
-            main_width,
-            aux_width,
-            challenges,
-            alphas,
-            o0,
-            o1,
-            o2,
-            program.nodes.as_ptr(),
-            program.nodes.len(),
-            program.base_consts.as_ptr(),
-            program.base_consts.len(),
-            program.ext_consts.as_ptr(),
-            program.ext_consts.len(),
-            program.roots.as_ptr(),
-            program.roots.len(),
-            frame.main.as_ptr(),
-            frame.main.len(),
-            frame.aux.as_ptr(),
-            frame.aux.len(),
-            frame.challenges.as_ptr(),
-            frame.challenges.len(),
-            frame.alphas.as_ptr(),
-            frame.alphas.len(),
-            ext_evals.as_mut_ptr(),
-            ext_evals.len(),
-            room.as_mut_ptr(),
-            room.len(),
+        on_frame!(
+            cir_eval_program_verifier,
+            program,
+            frame,
+            [ext_evals.as_mut_ptr(), ext_evals.len(), room.as_mut_ptr(), room.len()]
         )
     })
 }
