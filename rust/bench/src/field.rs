@@ -44,71 +44,51 @@ struct Case {
     sides: [Pass; SIDES],
 }
 
+impl Case {
+    const fn base(name: &'static str, sides: [Pass; SIDES]) -> Self {
+        Case {
+            name,
+            width: 1,
+            bits: u64::BITS,
+            sides,
+        }
+    }
+
+    const fn ext(name: &'static str, bits: u32, sides: [Pass; SIDES]) -> Self {
+        Case {
+            name,
+            width: 3,
+            bits,
+            sides,
+        }
+    }
+}
+
 /// With the second operand's words below 2 to this power, no sum of three products of the extension's multiplication
 /// passes 2^128, whatever the first operand is: each product is below 2^125, or 2^126 where a word is doubled.
 const NARROW: u32 = 61;
 
+/// The sides of a pass: the host's, the published one under the same name, and the published one with results reduced.
+macro_rules! sides {
+    ($pass:ident, $reduced:ident) => {
+        [ours::$pass, rust::$pass, rust::$reduced]
+    };
+}
+
+const EXT_MUL_EACH: [Pass; SIDES] = sides!(ext_mul_each, ext_mul_each_reduced);
+const EXT_MUL_CHAIN: [Pass; SIDES] = sides!(ext_mul_chain, ext_mul_chain_reduced);
+
 const CASES: [Case; 10] = [
-    Case {
-        name: "base add, throughput",
-        width: 1,
-        bits: u64::BITS,
-        sides: [ours::add_each, rust::add_each, rust::add_each_reduced],
-    },
-    Case {
-        name: "base sub, throughput",
-        width: 1,
-        bits: u64::BITS,
-        sides: [ours::sub_each, rust::sub_each, rust::sub_each_reduced],
-    },
-    Case {
-        name: "base mul, throughput",
-        width: 1,
-        bits: u64::BITS,
-        sides: [ours::mul_each, rust::mul_each, rust::mul_each_reduced],
-    },
-    Case {
-        name: "ext mul, throughput",
-        width: 3,
-        bits: u64::BITS,
-        sides: [ours::ext_mul_each, rust::ext_mul_each, rust::ext_mul_each_reduced],
-    },
-    Case {
-        name: "ext mul by narrow, throughput",
-        width: 3,
-        bits: NARROW,
-        sides: [ours::ext_mul_each, rust::ext_mul_each, rust::ext_mul_each_reduced],
-    },
-    Case {
-        name: "base add, latency",
-        width: 1,
-        bits: u64::BITS,
-        sides: [ours::add_chain, rust::add_chain, rust::add_chain_reduced],
-    },
-    Case {
-        name: "base sub, latency",
-        width: 1,
-        bits: u64::BITS,
-        sides: [ours::sub_chain, rust::sub_chain, rust::sub_chain_reduced],
-    },
-    Case {
-        name: "base mul, latency",
-        width: 1,
-        bits: u64::BITS,
-        sides: [ours::mul_chain, rust::mul_chain, rust::mul_chain_reduced],
-    },
-    Case {
-        name: "ext mul, latency",
-        width: 3,
-        bits: u64::BITS,
-        sides: [ours::ext_mul_chain, rust::ext_mul_chain, rust::ext_mul_chain_reduced],
-    },
-    Case {
-        name: "ext mul by narrow, latency",
-        width: 3,
-        bits: NARROW,
-        sides: [ours::ext_mul_chain, rust::ext_mul_chain, rust::ext_mul_chain_reduced],
-    },
+    Case::base("base add, throughput", sides!(add_each, add_each_reduced)),
+    Case::base("base sub, throughput", sides!(sub_each, sub_each_reduced)),
+    Case::base("base mul, throughput", sides!(mul_each, mul_each_reduced)),
+    Case::ext("ext mul, throughput", u64::BITS, EXT_MUL_EACH),
+    Case::ext("ext mul by narrow, throughput", NARROW, EXT_MUL_EACH),
+    Case::base("base add, latency", sides!(add_chain, add_chain_reduced)),
+    Case::base("base sub, latency", sides!(sub_chain, sub_chain_reduced)),
+    Case::base("base mul, latency", sides!(mul_chain, mul_chain_reduced)),
+    Case::ext("ext mul, latency", u64::BITS, EXT_MUL_CHAIN),
+    Case::ext("ext mul by narrow, latency", NARROW, EXT_MUL_CHAIN),
 ];
 
 pub fn run() {

@@ -9,8 +9,9 @@ use std::fmt::Arguments;
 use differential::inputs::Random;
 use differential::programs::agree::{Case, agree};
 use differential::programs::build::{Recipe, build};
-use differential::programs::compare::{self, Asked, Lengths};
+use differential::programs::compare::{self, Answer, Asked, Lengths};
 use differential::programs::published::{self, Published};
+use differential::programs::sample::{Sampled, stated_case};
 use differential::programs::{Cells, PROVER, VERIFIER, Words, foreign, small_shape};
 use differential::{P, Score};
 use host::Refusal;
@@ -43,49 +44,89 @@ fn in_words(random: &mut Random, program: &mut Published, num_base: usize) -> Wo
     words
 }
 
-/// Builds one program of so many calls, with leaves inside a frame of this shape, and compares it in all calls. Every
-/// evaluator has to answer.
-fn compare_built(score: &mut Score, random: &mut Random, calls: usize, shape: Shape, what: Arguments<'_>) {
-    let recipe = Recipe {
-        calls,
-        shape,
-        row_only: random.once_in(3),
-        constraints: random.pick(&[0, 1, 3, 8, 8, 8, 2 + calls / 4]),
-    };
-    let mut program = build(random, &recipe);
-    let num_base = published::words(&program).fitting_num_base(random);
-    let words = in_words(random, &mut program, num_base);
-    let (prover, verifier) = frames(random, shape);
+/// A built program with a `num_base` that no evaluator refuses, in words with some to spare.
+fn in_words_that_fit(random: &mut Random, program: &mut Published) -> Words {
+    let num_base = published::words(program).fitting_num_base(random);
+    in_words(random, program, num_base)
+}
+
+/// A program on random frames of this shape, in all calls. Says whether the evaluators answered.
+#[track_caller]
+fn agree_on(
+    score: &mut Score,
+    random: &mut Random,
+    (words, program): (&Words, &Published),
+    shape: Shape,
+    what: Arguments<'_>,
+) -> bool {
+    let (prover, verifier) = &frames(random, shape);
     let case = Case {
-        words: &words,
-        program: &program,
-        prover: &prover,
-        verifier: &verifier,
+        words,
+        program,
+        prover,
+        verifier,
     };
-    let before = score.times(0);
-    let agreed = agree(score, random, &case, what);
-    assert!(agreed, "{what}: the evaluators answer");
-    assert!(before + 4 <= score.times(0), "{what}: four calls answer");
+    agree(score, random, &case, what)
+}
+
+/// What the prover's and the verifier's evaluator answer.
+#[track_caller]
+fn answers(score: &mut Score, words: &Words, (prover, verifier): (&Cells, &Cells), what: Arguments<'_>) -> [Answer; 2] {
+    [
+        compare::eval_program(score, words, prover, Lengths::prover(words), what).answer,
+        compare::eval_program_verifier(score, words, verifier, Lengths::verifier(words), what).answer,
+    ]
+}
+
+/// Runs `body` for so many programs of one seed; it is told which one, for its messages.
+fn each_program(
+    test: &'static str,
+    seed: u64,
+    programs: usize,
+    mut body: impl FnMut(&mut Score, &mut Random, Arguments<'_>),
+) -> Score {
+    let mut random = Random::new(seed);
+    let mut score = Score::new(test);
+    for i in 0..programs {
+        body(&mut score, &mut random, format_args!("program {i} of seed {seed:#x}"));
+    }
+    score
+}
+
+/// Builds so many programs and compares each in all calls. `draw` says how many calls of the builder make one, and the
+/// shape of a frame that its leaves are inside. Every evaluator has to answer.
+#[track_caller]
+fn compare_built(test: &'static str, seed: u64, programs: usize, draw: impl Fn(&mut Random) -> (usize, Shape)) {
+    let score = each_program(test, seed, programs, |score, random, what| {
+        let (calls, shape) = draw(random);
+        let recipe = Recipe {
+            calls,
+            shape,
+            row_only: random.once_in(3),
+            constraints: random.pick(&[0, 1, 3, 8, 8, 8, 2 + calls / 4]),
+        };
+        let mut program = build(random, &recipe);
+        let words = in_words_that_fit(random, &mut program);
+        let before = score.times(0);
+        let agreed = agree_on(score, random, (&words, &program), shape, what);
+        assert!(agreed, "{what}: the evaluators answer");
+        assert!(before + 4 <= score.times(0), "{what}: four calls answer");
+    });
+    assert_eq!(score.agreed, programs as u64);
+    score.finish(&[0, 12, 13]);
 }
 
 #[test]
 fn built_programs() {
-    const SEED: u64 = 0x6275_696C;
-    let programs = many(110_000);
-    let mut random = Random::new(SEED);
-    let mut score = Score::new("built programs of up to 60 nodes");
-    for i in 0..programs {
-        let what = format_args!("program {i} of seed {SEED:#x}");
+    const TEST: &str = "built programs of up to 60 nodes";
+    compare_built(TEST, 0x6275_696C, many(110_000), |random| {
         let calls = if random.once_in(2) {
             random.below(13)
         } else {
             random.below(61)
         };
-        let shape = small_shape(&mut random);
-        compare_built(&mut score, &mut random, calls, shape, what);
-    }
-    assert_eq!(score.agreed, programs as u64);
-    score.finish(&[0, 12, 13]);
+        (calls, small_shape(random))
+    });
 }
 
 /// What the random calls are meant to reach, each in more than one of a hundred programs.
@@ -95,7 +136,6 @@ fn built_programs_have_everything() {
     const PROGRAMS: usize = 2_000;
     let mut random = Random::new(SEED);
     let mut found = BTreeMap::new();
-    let mut find = |name: String, holds: bool| *found.entry(name).or_insert(0) += usize::from(holds);
     for _ in 0..PROGRAMS {
         let recipe = Recipe {
             calls: random.below(61),
@@ -103,70 +143,9 @@ fn built_programs_have_everything() {
             row_only: random.once_in(3),
             constraints: 8,
         };
-        let words = published::words(&build(&mut random, &recipe));
-        let (n, roots) = (words.counts.nodes, &words.roots);
-        let ids = 0..n;
-        for tag in 0..=10 {
-            find(format!("tag {tag:>2}"), ids.clone().any(|id| words.tag(id) == tag));
+        for (name, holds) in features(&published::words(&build(&mut random, &recipe))) {
+            *found.entry(name).or_insert(0) += usize::from(holds);
         }
-        let operands = |id: usize| match words.tag(id) {
-            6..=8 => vec![words.nodes[4 * id + 1] as usize, words.nodes[4 * id + 2] as usize],
-            9 | 10 => vec![words.nodes[4 * id + 1] as usize],
-            _ => vec![],
-        };
-        let read: Vec<usize> = ids.clone().flat_map(operands).collect();
-        let times = |id: usize| read.iter().filter(|operand| **operand == id).count();
-        let is_root = |id: usize| roots.contains(&(id as u32));
-        let dim_of_first = |id: usize| words.dim(words.nodes[4 * id + 1] as usize);
-        let dim_of_second = |id: usize| words.dim(words.nodes[4 * id + 2] as usize);
-        let binary = |id: &usize| (6..=8).contains(&words.tag(*id));
-        find("dead node".into(), ids.clone().any(|id| times(id) == 0 && !is_root(id)));
-        find(
-            "shared operation".into(),
-            ids.clone().any(|id| 6 <= words.tag(id) && 2 <= times(id)),
-        );
-        find(
-            "both operands the same".into(),
-            ids.clone().filter(binary).any(|id| operands(id)[0] == operands(id)[1]),
-        );
-        find(
-            "base with extension".into(),
-            ids.clone()
-                .filter(binary)
-                .any(|id| dim_of_first(id) < dim_of_second(id)),
-        );
-        find(
-            "extension with base".into(),
-            ids.clone()
-                .filter(binary)
-                .any(|id| dim_of_second(id) < dim_of_first(id)),
-        );
-        find(
-            "embed of an extension value".into(),
-            ids.clone().any(|id| words.tag(id) == 10 && dim_of_first(id) == 1),
-        );
-        find(
-            "embed of a base value".into(),
-            ids.clone().any(|id| words.tag(id) == 10 && dim_of_first(id) == 0),
-        );
-        find(
-            "neg of an extension value".into(),
-            ids.clone().any(|id| words.tag(id) == 9 && words.dim(id) == 1),
-        );
-        find(
-            "root that is a leaf".into(),
-            roots.iter().any(|root| words.tag(*root as usize) <= 5),
-        );
-        find("root that is node 0".into(), roots.contains(&0));
-        find("no roots".into(), roots.is_empty());
-        find(
-            "root that repeats".into(),
-            (1..roots.len()).any(|c| roots[..c].contains(&roots[c])),
-        );
-        find(
-            "word of a constant not below p".into(),
-            words.ext_consts.iter().any(|word| P <= *word),
-        );
     }
     for (name, programs) in found {
         println!("built programs with {name}: {programs} of {PROGRAMS}");
@@ -174,14 +153,52 @@ fn built_programs_have_everything() {
     }
 }
 
+/// What a program can have, each with whether this one has it.
+fn features(words: &Words) -> Vec<(String, bool)> {
+    let (ids, roots) = (0..words.counts.nodes, &words.roots);
+    let read: Vec<usize> = ids.clone().flat_map(|id| operands(words, id)).collect();
+    let times = |id: usize| read.iter().filter(|operand| **operand == id).count();
+    let dims = |id: usize| -> Vec<u32> { operands(words, id).into_iter().map(|id| words.dim(id)).collect() };
+    let is_root = |id: usize| roots.contains(&(id as u32));
+    let some = |holds: &dyn Fn(usize) -> bool| ids.clone().any(holds);
+    let one_of = |tag: u32, dim: u32| some(&|id| words.tag(id) == tag && dims(id) == [dim]);
+    let same_twice = |id: usize| matches!(operands(words, id)[..], [x, y] if x == y);
+    let repeats = (1..roots.len()).any(|c| roots[..c].contains(&roots[c]));
+    let not_below_p = words.ext_consts.iter().any(|word| P <= *word);
+    let named = [
+        ("dead node", some(&|id| times(id) == 0 && !is_root(id))),
+        ("shared operation", some(&|id| 6 <= words.tag(id) && 2 <= times(id))),
+        ("both operands the same", some(&same_twice)),
+        ("base with extension", some(&|id| dims(id) == [0, 1])),
+        ("extension with base", some(&|id| dims(id) == [1, 0])),
+        ("embed of an extension value", one_of(10, 1)),
+        ("embed of a base value", one_of(10, 0)),
+        ("neg of an extension value", one_of(9, 1)),
+        ("root that is a leaf", some(&|id| is_root(id) && words.tag(id) <= 5)),
+        ("root that is node 0", is_root(0)),
+        ("no roots", roots.is_empty()),
+        ("root that repeats", repeats),
+        ("word of a constant not below p", not_below_p),
+    ];
+    let tags = (0..=10).map(|tag| (format!("tag {tag:>2}"), some(&|id| words.tag(id) == tag)));
+    tags.chain(named.map(|(name, holds)| (name.to_string(), holds)))
+        .collect()
+}
+
+/// The nodes that a node reads.
+fn operands(words: &Words, id: usize) -> Vec<usize> {
+    let [x, y] = [1, 2].map(|word| words.nodes[4 * id + word] as usize);
+    match words.tag(id) {
+        6..=8 => vec![x, y],
+        9 | 10 => vec![x],
+        _ => vec![],
+    }
+}
+
 #[test]
 fn built_programs_of_a_thousand_nodes() {
-    const SEED: u64 = 0x7468_6F75;
-    let programs = many(300);
-    let mut random = Random::new(SEED);
-    let mut score = Score::new("built programs of a thousand calls");
-    for i in 0..programs {
-        let what = format_args!("program {i} of seed {SEED:#x}");
+    const TEST: &str = "built programs of a thousand calls";
+    compare_built(TEST, 0x7468_6F75, many(300), |random| {
         let shape = Shape {
             steps: 1 + random.below(4),
             main_width: 1 + random.below(300),
@@ -189,41 +206,29 @@ fn built_programs_of_a_thousand_nodes() {
             challenges: 1 + random.below(4),
             alphas: 1 + random.below(20),
         };
-        compare_built(&mut score, &mut random, 1_000, shape, what);
-    }
-    assert_eq!(score.agreed, programs as u64);
-    score.finish(&[0, 12, 13]);
+        (1_000, shape)
+    });
 }
 
 /// Five to 256 steps. The published row frame is too small for the prover's evaluator there, so the published one is
 /// given all steps side by side in one; the published verifier takes any number of steps as they are.
 #[test]
 fn long_frames() {
-    const SEED: u64 = 0x6C6F_6E67;
-    let programs = many(3_000);
-    let mut random = Random::new(SEED);
-    let mut score = Score::new("frames of up to 256 steps");
-    for i in 0..programs {
-        let what = format_args!("program {i} of seed {SEED:#x}");
+    const TEST: &str = "frames of up to 256 steps";
+    compare_built(TEST, 0x6C6F_6E67, many(3_000), |random| {
         let shape = Shape {
             steps: random.pick(&[5, 6, 17, 128, 255, 256, 256]),
-            ..small_shape(&mut random)
+            ..small_shape(random)
         };
-        let calls = random.below(61);
-        compare_built(&mut score, &mut random, calls, shape, what);
-    }
-    assert_eq!(score.agreed, programs as u64);
-    score.finish(&[0, 12, 13]);
+        (random.below(61), shape)
+    });
 }
 
 /// As much of everything as a frame may have: columns, challenges and alpha powers far past a byte.
 #[test]
 fn wide_frames() {
-    const SEED: u64 = 0x7769_6465;
-    let mut random = Random::new(SEED);
-    let mut score = Score::new("frames of up to 65,536 columns");
-    for i in 0..many(50).max(25) {
-        let what = format_args!("program {i} of seed {SEED:#x}");
+    const TEST: &str = "frames of up to 65,536 columns";
+    compare_built(TEST, 0x7769_6465, many(50).max(25), |random| {
         let mut much = || random.pick(&[257, 1_000, 65_536]);
         let shape = Shape {
             steps: 2,
@@ -232,17 +237,12 @@ fn wide_frames() {
             challenges: much(),
             alphas: much(),
         };
-        compare_built(&mut score, &mut random, 60, shape, what);
-    }
-    score.finish(&[0, 12, 13]);
+        (60, shape)
+    });
 }
 
-/// The last leaf of each kind that a program can name, in the largest frame.
-#[test]
-fn last_leaves() {
-    const SEED: u64 = 0x6C61_7374;
-    let mut random = Random::new(SEED);
-    let mut score = Score::new("the last leaf of each kind");
+/// The last leaf of each kind that a program can name, each a constraint.
+fn last_leaves_built() -> Published {
     let mut builder: IrBuilder = IrBuilder::new();
     let leaves = [
         builder.main(3, 65_535),
@@ -253,6 +253,15 @@ fn last_leaves() {
     for (c, leaf) in leaves.into_iter().enumerate() {
         builder.emit(c, leaf);
     }
+    builder.finish(1)
+}
+
+/// The last leaves in the largest frame, and in frames that lack one thing of it.
+#[test]
+fn last_leaves() {
+    const SEED: u64 = 0x6C61_7374;
+    let mut random = Random::new(SEED);
+    let mut score = Score::new("the last leaf of each kind");
     let shape = Shape {
         steps: 4,
         main_width: 65_536,
@@ -260,9 +269,9 @@ fn last_leaves() {
         challenges: 65_536,
         alphas: 65_536,
     };
-    let program = builder.finish(1);
+    let program = last_leaves_built();
     let words = published::words(&program);
-    let (prover, verifier) = frames(&mut random, shape);
+    let (mut prover, mut verifier) = frames(&mut random, shape);
     let case = Case {
         words: &words,
         program: &program,
@@ -283,15 +292,11 @@ fn last_leaves() {
     for (take, place) in one_less {
         let outside = Err(Refusal { number: 13, place });
         let what = format_args!("without the last leaf at node {place}");
-        let (mut prover, mut verifier) = (prover.clone(), verifier.clone());
-        take(&mut prover.shape);
-        take(&mut verifier.shape);
-        let lengths = Lengths::prover(&words);
-        let answer = compare::eval_program(&mut score, &words, &prover, lengths, what).answer;
-        assert_eq!(answer, outside, "{what}");
-        let lengths = Lengths::verifier(&words);
-        let answer = compare::eval_program_verifier(&mut score, &words, &verifier, lengths, what).answer;
-        assert_eq!(answer, outside, "{what}");
+        let mut less = shape;
+        take(&mut less);
+        (prover.shape, verifier.shape) = (less, less);
+        let answers = answers(&mut score, &words, (&prover, &verifier), what);
+        assert_eq!(answers, [outside; 2], "{what}");
     }
     score.finish(&[0, 13]);
 }
@@ -300,46 +305,39 @@ fn last_leaves() {
 /// prover's answers 12 at the first that is not, and the verifier's takes no notice.
 #[test]
 fn every_num_base() {
-    const SEED: u64 = 0x6E75_6D62;
-    let mut random = Random::new(SEED);
-    let mut score = Score::new("every num_base");
-    for i in 0..many(4_000) {
-        let shape = small_shape(&mut random);
+    let score = each_program("every num_base", 0x6E75_6D62, many(4_000), |score, random, what| {
+        let shape = small_shape(random);
         let recipe = Recipe {
             calls: random.below(40),
             shape,
             row_only: random.once_in(2),
             constraints: random.pick(&[1, 2, 5, 9]),
         };
-        let mut program = build(&mut random, &recipe);
-        let (prover, verifier) = frames(&mut random, shape);
+        let mut program = build(random, &recipe);
+        let (prover, verifier) = &frames(random, shape);
         let leading = published::words(&program).leading_base_roots();
         let roots = program.roots.len();
         for num_base in (0..roots + 3).chain([255, 256, 4_294_967_295]) {
-            let what = format_args!("num_base {num_base}, program {i} of seed {SEED:#x}");
-            let words = in_words(&mut random, &mut program, num_base);
-            let case = Case {
-                words: &words,
-                program: &program,
-                prover: &prover,
-                verifier: &verifier,
-            };
+            let what = format_args!("num_base {num_base}, {what}");
+            let words = &in_words(random, &mut program, num_base);
             if num_base <= leading || leading == roots {
-                assert!(agree(&mut score, &mut random, &case, what), "{what}");
+                let case = Case {
+                    words,
+                    program: &program,
+                    prover,
+                    verifier,
+                };
+                assert!(agree(score, random, &case, what), "{what}");
                 continue;
             }
             let refused = Err(Refusal {
                 number: 12,
                 place: leading as u64,
             });
-            let lengths = Lengths::prover(&words);
-            let answer = compare::eval_program(&mut score, &words, &prover, lengths, what).answer;
-            assert_eq!(answer, refused, "{what}");
-            let lengths = Lengths::verifier(&words);
-            let answer = compare::eval_program_verifier(&mut score, &words, &verifier, lengths, what).answer;
-            assert_eq!(answer, Ok(()), "{what}");
+            let answers = answers(score, words, (prover, verifier), what);
+            assert_eq!(answers, [refused, Ok(())], "{what}");
         }
-    }
+    });
     score.finish(&[0, 12, 13]);
 }
 
@@ -347,11 +345,8 @@ fn every_num_base() {
 /// or not, and agreement where none is.
 #[test]
 fn leaves_outside_the_frame() {
-    const SEED: u64 = 0x6F75_7473;
-    let mut random = Random::new(SEED);
-    let mut score = Score::new("frames that lack something");
-    for i in 0..many(8_000) {
-        let what = format_args!("program {i} of seed {SEED:#x}");
+    const TEST: &str = "frames that lack something";
+    let score = each_program(TEST, 0x6F75_7473, many(8_000), |score, random, what| {
         let shape = Shape {
             steps: 1 + random.below(4),
             main_width: 1 + random.below(4),
@@ -365,9 +360,8 @@ fn leaves_outside_the_frame() {
             row_only: random.once_in(3),
             constraints: 6,
         };
-        let mut program = build(&mut random, &recipe);
-        let num_base = published::words(&program).fitting_num_base(&mut random);
-        let words = in_words(&mut random, &mut program, num_base);
+        let mut program = build(random, &recipe);
+        let words = in_words_that_fit(random, &mut program);
         let mut less = shape;
         match random.below(5) {
             0 => less.steps -= 1,
@@ -376,41 +370,24 @@ fn leaves_outside_the_frame() {
             3 => less.challenges -= 1,
             _ => less.alphas -= 1,
         }
-        let (prover, verifier) = frames(&mut random, less);
-        let case = Case {
-            words: &words,
-            program: &program,
-            prover: &prover,
-            verifier: &verifier,
-        };
-        agree(&mut score, &mut random, &case, what);
-    }
+        agree_on(score, random, (&words, &program), less, what);
+    });
     score.finish(&[0, 12, 13]);
 }
 
 /// Well-formed programs that no builder makes, on frames that mostly hold their leaves.
 #[test]
 fn foreign_programs() {
-    const SEED: u64 = 0x666F_7265;
+    const TEST: &str = "well-formed programs that no builder makes";
     let programs = many(40_000);
-    let mut random = Random::new(SEED);
-    let mut score = Score::new("well-formed programs that no builder makes");
-    for i in 0..programs {
-        let what = format_args!("program {i} of seed {SEED:#x}");
-        let shape = small_shape(&mut random);
-        let counts = foreign::small_counts(&mut random, 40);
-        let mut words = foreign::well_formed(&mut random, counts, &shape, 200);
+    let score = each_program(TEST, 0x666F_7265, programs, |score, random, what| {
+        let shape = small_shape(random);
+        let counts = foreign::small_counts(random, 40);
+        let mut words = foreign::well_formed(random, counts, &shape, 200);
         let program = published::program(&words);
-        words.lengthen(&mut random);
-        let (prover, verifier) = frames(&mut random, shape);
-        let case = Case {
-            words: &words,
-            program: &program,
-            prover: &prover,
-            verifier: &verifier,
-        };
-        agree(&mut score, &mut random, &case, what);
-    }
+        words.lengthen(random);
+        agree_on(score, random, (&words, &program), shape, what);
+    });
     assert!(programs as u64 / 2 < score.agreed, "most of them are answered");
     score.finish(&[0, 12, 13]);
 }
@@ -418,36 +395,27 @@ fn foreign_programs() {
 /// More of everything than 16 bits count: nodes, constants and roots.
 #[test]
 fn long_programs() {
-    const SEED: u64 = 0x3136_6269;
-    let mut random = Random::new(SEED);
-    let mut score = Score::new("programs of more than 65,536 nodes");
-    for i in 0..3 {
-        let what = format_args!("program {i} of seed {SEED:#x}");
-        let shape = Shape {
-            steps: 2,
-            main_width: 3,
-            aux_width: 2,
-            challenges: 2,
-            alphas: 2,
-        };
+    const TEST: &str = "programs of more than 65,536 nodes";
+    const SHAPE: Shape = Shape {
+        steps: 2,
+        main_width: 3,
+        aux_width: 2,
+        challenges: 2,
+        alphas: 2,
+    };
+    let score = each_program(TEST, 0x3136_6269, 3, |score, random, what| {
+        let mut much = || 70_000 + random.below(5_000);
         let counts = Counts {
-            nodes: 70_000 + random.below(5_000),
-            base_consts: 70_000 + random.below(5_000),
-            ext_consts: 70_000 + random.below(5_000),
-            roots: 70_000 + random.below(5_000),
+            nodes: much(),
+            base_consts: much(),
+            ext_consts: much(),
+            roots: much(),
             num_base: 0,
         };
-        let words = foreign::well_formed(&mut random, counts, &shape, 1_000_000_000);
+        let words = foreign::well_formed(random, counts, &SHAPE, 1_000_000_000);
         let program = published::program(&words);
-        let (prover, verifier) = frames(&mut random, shape);
-        let case = Case {
-            words: &words,
-            program: &program,
-            prover: &prover,
-            verifier: &verifier,
-        };
-        assert!(agree(&mut score, &mut random, &case, what), "{what}");
-    }
+        assert!(agree_on(score, random, (&words, &program), SHAPE, what), "{what}");
+    });
     score.finish(&[0, 13]);
 }
 
@@ -470,35 +438,10 @@ fn words_and_back() {
 /// agreement.
 #[test]
 fn stated_program() {
-    let mut builder: IrBuilder = IrBuilder::new();
-    let first = builder.main(0, 0);
-    let second = builder.main(1, 0);
-    let difference = builder.sub(second, first);
-    let one = builder.const_base(1);
-    let base = builder.sub(difference, one);
-    builder.emit(0, base);
-    let aux = builder.aux(0, 2);
-    let challenge = builder.challenge(0);
-    let product = builder.mul(aux, challenge);
-    let sum = builder.add(product, base);
-    builder.emit(1, sum);
-    let words = published::words(&builder.finish(1));
-    let cells = Cells {
-        shape: Shape {
-            steps: 2,
-            main_width: 1,
-            aux_width: 3,
-            challenges: 1,
-            alphas: 0,
-        },
-        main: vec![5, 9],
-        aux: vec![0, 0, 0, 0, 0, 0, 1, 2, 3, 0, 0, 0, 0, 0, 0, 0, 0, 0],
-        challenges: vec![4, 5, 6],
-        ..Cells::default()
-    };
+    let Sampled { words, prover, .. } = stated_case();
     let mut score = Score::new("the stated program");
     let lengths = Lengths::prover(&words);
-    let evaluated = compare::eval_program(&mut score, &words, &cells, lengths, format_args!("program E"));
+    let evaluated = compare::eval_program(&mut score, &words, &prover, lengths, format_args!("program E"));
     assert_eq!(evaluated.answer, Ok(()));
     assert_eq!(evaluated.base_evals, [3]);
     assert_eq!(evaluated.ext_evals[..3], compare::fresh_words(3));
@@ -521,6 +464,19 @@ fn stated_program() {
     score.finish(&[0]);
 }
 
+/// A frame of one main cell.
+fn one_cell(words: &[u64]) -> Cells {
+    Cells {
+        shape: Shape {
+            steps: 1,
+            main_width: 1,
+            ..Shape::default()
+        },
+        main: words.to_vec(),
+        ..Cells::default()
+    }
+}
+
 /// emit(2) alone: the two constraints before it are node 0.
 #[test]
 fn stated_gap() {
@@ -529,15 +485,7 @@ fn stated_gap() {
     builder.emit(2, cell);
     let words = published::words(&builder.finish(3));
     assert_eq!(words.roots, [0, 0, 1]);
-    let cells = Cells {
-        shape: Shape {
-            steps: 1,
-            main_width: 1,
-            ..Shape::default()
-        },
-        main: vec![P + 7],
-        ..Cells::default()
-    };
+    let cells = one_cell(&[P + 7]);
     let mut score = Score::new("the stated gap");
     let lengths = Lengths::prover(&words);
     let evaluated = compare::eval_program(&mut score, &words, &cells, lengths, format_args!("emit(2) alone"));
@@ -569,15 +517,7 @@ fn verifier_classes() {
     builder.emit(1, both);
     builder.emit(2, embedded);
     let words = published::words(&builder.finish(2));
-    let cells = Cells {
-        shape: Shape {
-            steps: 1,
-            main_width: 1,
-            ..Shape::default()
-        },
-        main: vec![1, P, 3],
-        ..Cells::default()
-    };
+    let cells = one_cell(&[1, P, 3]);
     let mut score = Score::new("the verifier's classes");
     let lengths = Lengths::verifier(&words);
     let evaluated = compare::eval_program_verifier(&mut score, &words, &cells, lengths, format_args!("classes"));

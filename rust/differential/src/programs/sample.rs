@@ -25,6 +25,7 @@
 
 use host::program::{Counts, Shape};
 use stark::constraint_ir::{Expr, IrBuilder};
+use stark::program_e;
 
 use super::compare::{Answer, Lengths};
 use super::published::{self, ext_element};
@@ -84,21 +85,6 @@ fn raw(nodes: &[[u32; 4]], base_consts: &[u64], ext_consts: &[Limbs], roots: &[u
         ext_consts: ext_consts.concat(),
         roots: roots.to_vec(),
     }
-}
-
-/// Program E of the scope document.
-fn stated() -> Words {
-    built(1, |b| {
-        let (first, second) = (b.main(0, 0), b.main(1, 0));
-        let difference = b.sub(second, first);
-        let one = b.const_base(1);
-        let base = b.sub(difference, one);
-        b.emit(0, base);
-        let (aux, challenge) = (b.aux(0, 2), b.challenge(0));
-        let product = b.mul(aux, challenge);
-        let sum = b.add(product, base);
-        b.emit(1, sum);
-    })
 }
 
 /// Programs that are each there for something.
@@ -235,7 +221,7 @@ fn chosen() -> Vec<Words> {
 }
 
 /// Program E on the frame that the scope document gives it.
-fn stated_case() -> Sampled {
+pub fn stated_case() -> Sampled {
     let prover = Cells {
         shape: Shape {
             steps: 2,
@@ -254,7 +240,7 @@ fn stated_case() -> Sampled {
         ..prover.clone()
     };
     Sampled {
-        words: stated(),
+        words: published::words(&program_e()),
         prover,
         verifier,
     }

@@ -1,5 +1,6 @@
 //! The published constraint files, compiled unchanged, inside the module tree that they expect. The modules written
-//! here are shims for files that were not published; ../../README.md says what each stands for.
+//! here are shims for files that were not published; ../../README.md says what each stands for. One is not:
+//! `program_e` is a program for tests.
 
 // Crates that the published files name and that are not at hand: what they use of them is here.
 extern crate self as crypto;
@@ -24,12 +25,15 @@ pub mod lookup;
 #[forbid(unsafe_code)]
 mod outside;
 #[forbid(unsafe_code)]
+mod program_e;
+#[forbid(unsafe_code)]
 pub mod proof;
 #[forbid(unsafe_code)]
 pub mod trace;
 
 pub use oracle_derives::{Archive, Deserialize, Serialize};
 pub use outside::{Itertools, StoredLength};
+pub use program_e::program_e;
 
 // `frame`, `table` and `traits`, from where they stand: the build script writes the declarations.
 include!(concat!(env!("OUT_DIR"), "/stark.rs"));

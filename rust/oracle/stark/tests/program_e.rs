@@ -4,23 +4,7 @@
 #![forbid(unsafe_code)]
 
 use stark::constraint_ir::device::{DeviceProgram, eval_device_program};
-use stark::constraint_ir::{ConstraintProgram, IrBuilder};
-
-fn program_e() -> ConstraintProgram {
-    let mut b: IrBuilder = IrBuilder::new();
-    let first = b.main(0, 0);
-    let second = b.main(1, 0);
-    let difference = b.sub(second, first);
-    let one = b.const_base(1);
-    let base = b.sub(difference, one);
-    b.emit(0, base);
-    let aux = b.aux(0, 2);
-    let challenge = b.challenge(0);
-    let product = b.mul(aux, challenge);
-    let sum = b.add(product, base);
-    b.emit(1, sum);
-    b.finish(1)
-}
+use stark::program_e;
 
 #[test]
 fn lowers_as_listed() {
