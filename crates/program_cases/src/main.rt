@@ -1,0 +1,124 @@
+// Runs the calls on programs over a sample of small programs with frames, on standard input, and holds each answer and
+// each word to the numbers there. The file stdin beside this is what `cargo run --release --offline -p differential`
+// prints in rust/; the head of rust/differential/src/programs/sample.rs says what the numbers are.
+ghost use mathlib.Core.Path.{_≡_};
+ghost use Prim.Native.Nat.{_<_};
+ghost use lib.ListN.{length};
+
+mod answer;
+mod calls;
+mod limits;
+mod line;
+mod text;
+
+use libc::STDIN_FILENO;
+use libc::STDOUT_FILENO;
+use line::NODES_AT;
+use line::Seen;
+use line::case_of;
+use line::first;
+use line::narrow;
+use line::part;
+use line::times;
+use text::read_numbers;
+
+fn replay(line: &[u64]) -> Seen {
+    let case = case_of(line);
+    let c = case.counts;
+    if line.len() < case.answers {
+        return Seen::Cut;
+    }
+    let mut nodes = [0u32; 256];
+    if !narrow(part(line, NODES_AT, case.bases), &mut nodes) {
+        return Seen::NoRoom;
+    }
+    let mut roots = [0u32; 64];
+    if !narrow(part(line, case.roots, case.main), &mut roots) {
+        return Seen::NoRoom;
+    }
+    calls::all(
+        line,
+        case,
+        first(&nodes, times(4, c.nodes)),
+        first(&roots, c.roots),
+    )
+}
+
+fn say(words: &[u8]) {
+    io::write_all(STDOUT_FILENO, words);
+}
+
+fn say_number(name: &[u8], x: u64) {
+    io::write_all(STDOUT_FILENO, name);
+    io::print_decimal(STDOUT_FILENO, x);
+}
+
+// Numbers of a line are counted from 0.
+fn report(line: &[u64], seen: Seen) {
+    match seen {
+        Seen::Agrees { at } => {
+            if at == line.len() {
+                say(b" agrees\n");
+            } else {
+                say(b" has numbers to spare\n");
+            }
+        }
+        Seen::Differs { at, found } => {
+            say_number(b": number ", at as u64);
+            say_number(b" has to be ", line::number_at(line, at));
+            say_number(b" and is ", found);
+            say(b"\n");
+        }
+        Seen::Touched { at } => {
+            say_number(
+                b": a word is written that has to stay, before number ",
+                at as u64,
+            );
+            say(b"\n");
+        }
+        Seen::Cut => say(b" is shorter than its counts say\n"),
+        Seen::NoRoom => say(b" needs more room than this program has\n"),
+    }
+}
+
+// Where the line ends that starts at a place; its first number says how many follow.
+fn line_end(numbers: &[u64], at: usize) -> usize
+    requires { ⌜ at < length (now numbers) ⌝ }
+    ensures { λ r. ⌜ at < r ⌝ }
+{
+    let count = numbers[at] as usize;
+    if usize::MAX - 1 - at < count {
+        return usize::MAX;
+    }
+    at + 1 + count
+}
+
+fn replay_part(numbers: &[u64], case: u64, from: usize, to: usize) {
+    let line = part(numbers, from, to);
+    say_number(b"case ", case);
+    report(line, replay(line));
+}
+
+fn replay_all(numbers: &[u64]) {
+    let mut case: u64 = 0;
+    let mut at: usize = 0;
+    while at < numbers.len() {
+        let end = line_end(numbers, at);
+        replay_part(numbers, case, at, end);
+        case += 1;
+        at = end;
+    }
+}
+
+fn main() {
+    let mut text = io::large_buffer();
+    let length = io::read_full(STDIN_FILENO, &mut text);
+    let mut numbers = [0u64; 8192];
+    let r = read_numbers(&text[..length], &mut numbers);
+    if r.good {
+        replay_all(part(&numbers, 0, r.count));
+    } else {
+        say(b"the sample is no decimal numbers, or too many\n");
+    }
+    limits::all();
+}
