@@ -3,18 +3,21 @@
 use super::answer::number;
 use super::answer::refusal_number;
 use super::line::Case;
-use super::line::KEPT;
-use super::line::KEPT_COLUMN;
-use super::line::Seen;
-use super::line::hold;
-use super::line::hold_columns;
-use super::line::hold_written;
-use super::line::keep_all;
+use super::line::NODE_WORDS;
+use super::line::NODES;
+use super::line::ROOTS;
 use super::line::least;
 use super::line::number_at;
 use super::line::part;
 use super::line::plus;
 use super::line::times;
+use super::seen::KEPT;
+use super::seen::KEPT_COLUMN;
+use super::seen::Seen;
+use super::seen::hold;
+use super::seen::hold_columns;
+use super::seen::hold_written;
+use super::seen::keep_all;
 use field::extensions_goldilocks::Ext;
 use interp::interp::Evaluated;
 use interp::interp::eval_program;
@@ -24,6 +27,9 @@ use ir::program::Counts;
 use ir::program::check_program;
 use ir::reads::Columns;
 use ir::reads::next_row_trace_reads;
+
+// Three words a constraint.
+const EXT_WORDS: usize = 192;
 
 fn offset_of(line: &[u64]) -> Ext {
     Ext {
@@ -35,7 +41,7 @@ fn offset_of(line: &[u64]) -> Ext {
     }
 }
 
-// What a call writes for: nothing where it refuses.
+// What a call writes values of: nothing where it refuses.
 fn written(c: Counts, answer: u64) -> Counts {
     if answer == 0 {
         return c;
@@ -62,7 +68,7 @@ fn check(line: &[u64], case: Case, nodes: &[u32], roots: &[u32], seen: Seen) -> 
 
 fn reads(line: &[u64], case: Case, nodes: &[u32], roots: &[u32], seen: Seen) -> Seen {
     let s = case.shape;
-    let mut out = [KEPT_COLUMN; 64];
+    let mut out = [KEPT_COLUMN; NODES];
     let columns = next_row_trace_reads(
         case.counts,
         s.main,
@@ -86,9 +92,9 @@ fn reads(line: &[u64], case: Case, nodes: &[u32], roots: &[u32], seen: Seen) -> 
 }
 
 fn prover(line: &[u64], case: Case, nodes: &[u32], roots: &[u32], seen: Seen) -> Seen {
-    let mut base = [KEPT; 64];
-    let mut ext = [KEPT; 192];
-    let mut room = [KEPT; 256];
+    let mut base = [KEPT; ROOTS];
+    let mut ext = [KEPT; EXT_WORDS];
+    let mut room = [KEPT; NODE_WORDS];
     let outcome = eval_program(
         case.counts,
         case.shape,
@@ -111,13 +117,13 @@ fn prover(line: &[u64], case: Case, nodes: &[u32], roots: &[u32], seen: Seen) ->
     let answered = hold(line, seen, answer);
     let bases = hold_written(line, answered, &base, 0, leading);
     let exts = hold_written(line, bases, &ext, times(3, leading), times(3, w.roots));
-    keep_all(exts, part(&room, times(4, w.nodes), 256))
+    keep_all(exts, part(&room, times(4, w.nodes), NODE_WORDS))
 }
 
 // The main cells are the wide ones, and every constraint is written as extension.
 fn verifier(line: &[u64], case: Case, nodes: &[u32], roots: &[u32], seen: Seen) -> Seen {
-    let mut ext = [KEPT; 192];
-    let mut room = [KEPT; 256];
+    let mut ext = [KEPT; EXT_WORDS];
+    let mut room = [KEPT; NODE_WORDS];
     let outcome = eval_program_verifier(
         case.counts,
         case.shape,
@@ -137,7 +143,7 @@ fn verifier(line: &[u64], case: Case, nodes: &[u32], roots: &[u32], seen: Seen) 
     let w = written(case.counts, answer);
     let answered = hold(line, seen, answer);
     let exts = hold_written(line, answered, &ext, 0, times(3, w.roots));
-    keep_all(exts, part(&room, times(4, w.nodes), 256))
+    keep_all(exts, part(&room, times(4, w.nodes), NODE_WORDS))
 }
 
 // One constraint over the first step's main cells; without steps there are none.
@@ -145,7 +151,7 @@ fn row(line: &[u64], case: Case, nodes: &[u32], roots: &[u32], asked: usize, see
     let c = case.counts;
     let s = case.shape;
     let width = if s.steps == 0 { 0 } else { s.main };
-    let mut room = [KEPT; 256];
+    let mut room = [KEPT; NODE_WORDS];
     let evaluated = eval_program_base(
         c,
         width,
@@ -161,7 +167,7 @@ fn row(line: &[u64], case: Case, nodes: &[u32], roots: &[u32], asked: usize, see
         Evaluated::Base(value) => {
             let answered = hold(line, seen, 0);
             let valued = hold(line, answered, value);
-            keep_all(valued, part(&room, times(4, c.nodes), 256))
+            keep_all(valued, part(&room, times(4, c.nodes), NODE_WORDS))
         }
         Evaluated::Rejected(why) => {
             let answered = hold(line, seen, refusal_number(why));
@@ -180,8 +186,8 @@ fn rows(line: &[u64], case: Case, nodes: &[u32], roots: &[u32], seen: Seen) -> S
     so_far
 }
 
-// All five in the line's order.
-pub fn all(line: &[u64], case: Case, nodes: &[u32], roots: &[u32]) -> Seen {
+// All five, in the line's order.
+pub fn hold_calls(line: &[u64], case: Case, nodes: &[u32], roots: &[u32]) -> Seen {
     let start = Seen::Agrees { at: case.answers };
     let checked = check(line, case, nodes, roots, start);
     let read = reads(line, case, nodes, roots, checked);

@@ -1,134 +1,52 @@
-// Counts at their limits and one past them, with memory that is too short for either: document 01's figures for nodes,
-// and the same for the other counts.
-use super::answer::number;
-use super::answer::refusal_number;
-use field::extensions_goldilocks::Ext;
-use interp::interp::Evaluated;
-use interp::interp::eval_program;
-use interp::interp::eval_program_base;
-use interp::interp::eval_program_verifier;
-use ir::frame::Shape;
-use ir::program::Counts;
+// Counts at their limits: with memory that is short, a count that may be gets 1, and one more gets 8 or 9. For nodes these
+// are figures of document 01.
+ghost use Prim.Native.Nat.{_<_};
+use super::calls::hold_calls;
+use super::line::NODES_AT;
+use super::line::case_of;
+use super::report::report;
+use super::report::say_number;
 use ir::program::MOST;
 use ir::program::MOST32;
-use ir::program::check_program;
-use ir::reads::Columns;
-use ir::reads::next_row_trace_reads;
-use libc::STDOUT_FILENO;
 
-fn say(answer: u64) {
-    io::write_all(STDOUT_FILENO, b" ");
-    io::print_decimal(STDOUT_FILENO, answer);
-}
+// Where a line has each count.
+const NODES: usize = 1;
 
-fn check(c: Counts, short: &[u32], short_words: &[u64]) {
-    say(number(check_program(c, short, short_words, short_words, short)));
-}
+const BASES: usize = 2;
 
-fn reads(c: Counts, short: &[u32], words: &[u64]) {
-    let mut out = [0u32; 1];
-    match next_row_trace_reads(c, 0, short, words, words, short, &mut out) {
-        Columns::Listed { count: _ } => say(0),
-        Columns::Refused(why) => say(refusal_number(why)),
-    }
-}
+const EXTS: usize = 3;
 
-fn empty_shape() -> Shape {
-    Shape {
-        steps: 0,
-        main: 0,
-        aux: 0,
-        challenges: 0,
-        alphas: 0,
-    }
-}
+const ROOTS: usize = 4;
 
-fn prover(c: Counts, short: &[u32], w: &[u64]) {
-    let offset = Ext { limbs: [0, 0, 0] };
-    let s = empty_shape();
-    let mut base = [0u64; 1];
-    let mut ext = [0u64; 1];
-    let mut room = [0u64; 1];
-    say(number(eval_program(
-        c,
-        s,
-        offset,
-        short,
-        w,
-        w,
-        short,
-        w,
-        w,
-        w,
-        w,
-        &mut base,
-        &mut ext,
-        &mut room,
-    )));
-}
+const NUM_BASE: usize = 5;
 
-fn verifier(c: Counts, short: &[u32], w: &[u64]) {
-    let offset = Ext { limbs: [0, 0, 0] };
-    let s = empty_shape();
-    let mut ext = [0u64; 1];
-    let mut room = [0u64; 1];
-    say(number(eval_program_verifier(
-        c,
-        s,
-        offset,
-        short,
-        w,
-        w,
-        short,
-        w,
-        w,
-        w,
-        w,
-        &mut ext,
-        &mut room,
-    )));
-}
-
-fn row(c: Counts, short: &[u32], w: &[u64]) {
-    let mut room = [0u64; 1];
-    match eval_program_base(c, 0, 0, short, w, w, short, w, &mut room) {
-        Evaluated::Base(_) => say(0),
-        Evaluated::Rejected(why) => say(refusal_number(why)),
-    }
-}
-
-// The five calls' answers, in one line.
-fn answers(name: &[u8], count: usize, c: Counts) {
+// A line of one count and no tables: the five answers follow at once.
+fn limit(name: &[u8], place: usize, count: usize, answer: u64)
+    requires { ⌜ place < 19 ⌝ }
+{
+    let mut line = [0u64; 19];
+    line[place] = count as u64;
+    line[14] = answer;
+    line[15] = answer;
+    line[16] = answer;
+    line[17] = answer;
+    line[18] = answer;
+    let mut case = case_of(&line);
+    case.answers = NODES_AT;
     let short = [0u32; 1];
-    let words = [0u64; 1];
-    io::write_all(STDOUT_FILENO, name);
-    say(count as u64);
-    io::write_all(STDOUT_FILENO, b" gives");
-    check(c, &short, &words);
-    reads(c, &short, &words);
-    prover(c, &short, &words);
-    verifier(c, &short, &words);
-    row(c, &short, &words);
-    io::write_all(STDOUT_FILENO, b"\n");
+    say_number(name, count as u64);
+    say_number(b" and answer ", answer);
+    report(&line, hold_calls(&line, case, &short, &short));
 }
 
-fn counted(nodes: usize, bases: usize, exts: usize, roots: usize) -> Counts {
-    Counts {
-        nodes,
-        bases,
-        exts,
-        roots,
-        num_base: 0,
-    }
-}
-
-pub fn all() {
-    answers(b"nodes", MOST, counted(MOST, 0, 0, 0));
-    answers(b"nodes", MOST + 1, counted(MOST + 1, 0, 0, 0));
-    answers(b"base constants", MOST, counted(0, MOST, 0, 0));
-    answers(b"base constants", MOST + 1, counted(0, MOST + 1, 0, 0));
-    answers(b"extension constants", MOST, counted(0, 0, MOST, 0));
-    answers(b"extension constants", MOST + 1, counted(0, 0, MOST + 1, 0));
-    answers(b"roots", MOST32, counted(0, 0, 0, MOST32));
-    answers(b"roots", MOST32 + 1, counted(0, 0, 0, MOST32 + 1));
+pub fn hold_limits() {
+    limit(b"nodes ", NODES, MOST, 1);
+    limit(b"nodes ", NODES, MOST + 1, 8);
+    limit(b"base constants ", BASES, MOST, 1);
+    limit(b"base constants ", BASES, MOST + 1, 8);
+    limit(b"extension constants ", EXTS, MOST, 1);
+    limit(b"extension constants ", EXTS, MOST + 1, 8);
+    limit(b"roots ", ROOTS, MOST32, 1);
+    limit(b"roots ", ROOTS, MOST32 + 1, 9);
+    limit(b"num_base ", NUM_BASE, MOST32 + 1, 9);
 }

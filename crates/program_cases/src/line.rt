@@ -1,5 +1,5 @@
-// A line of the sample: its tables, and the numbers that the calls have to give. The head of
-// rust/differential/src/programs/sample.rs says what the numbers of a line are.
+// A line of the sample and its tables. The head of rust/differential/src/programs/sample.rs says what the numbers of a
+// line are.
 use ir::frame::Shape;
 use ir::program::Counts;
 
@@ -19,8 +19,15 @@ pub struct Case {
     pub answers: usize,
 }
 
-// The number of numbers, the counts, the shape and the table offset stand before the nodes.
+// How many numbers follow, the counts, the shape and the table offset stand before the nodes.
 pub const NODES_AT: usize = 14;
+
+// There is room for so many nodes, of four words each, and for so many constraints.
+pub const NODES: usize = 64;
+
+pub const NODE_WORDS: usize = 256;
+
+pub const ROOTS: usize = 64;
 
 // The sum, or the most that 64 bits hold, which is past the end of every line.
 pub fn plus(a: usize, b: usize) -> usize {
@@ -45,7 +52,7 @@ pub fn least(a: usize, b: usize) -> usize {
     if a < b { a } else { b }
 }
 
-// A number of the line; 0 past its end, which the place of the answers is then past too.
+// A number of the line, or 0 past its end.
 pub fn number_at(line: &[u64], i: usize) -> u64 {
     if i < line.len() { line[i] } else { 0 }
 }
@@ -135,90 +142,4 @@ pub fn narrow(words: &[u64], room: &mut [u32]) -> bool {
         i += 1;
     }
     true
-}
-
-// What a case has come to: the numbers before a place agree; a call gave another word there; a call wrote a word that
-// it has to leave; the line is shorter than its counts say; or it needs more room than there is.
-pub enum Seen {
-    Agrees { at: usize },
-    Differs { at: usize, found: u64 },
-    Touched { at: usize },
-    Cut,
-    NoRoom,
-}
-
-// What words hold that a call may write: no call writes it, since it is above p.
-pub const KEPT: u64 = 0xFFFF_FFFF_FFFF_FFFE;
-
-// The same for columns, which are below 131,072.
-pub const KEPT_COLUMN: u32 = 0xFFFF_FFFE;
-
-// Holds a word to the next number of the line. What has gone wrong before stays.
-pub fn hold(line: &[u64], seen: Seen, word: u64) -> Seen {
-    let Seen::Agrees { at } = seen else {
-        return seen;
-    };
-    if line.len() <= at {
-        return Seen::Differs { at, found: word };
-    }
-    if line[at] != word {
-        return Seen::Differs { at, found: word };
-    }
-    Seen::Agrees { at: at + 1 }
-}
-
-fn keep(seen: Seen, is_kept: bool) -> Seen {
-    let Seen::Agrees { at } = seen else {
-        return seen;
-    };
-    if is_kept {
-        Seen::Agrees { at }
-    } else {
-        Seen::Touched { at }
-    }
-}
-
-fn hold_all(line: &[u64], seen: Seen, words: &[u64]) -> Seen {
-    let mut so_far = seen;
-    let mut i: usize = 0;
-    while i < words.len() {
-        so_far = hold(line, so_far, words[i]);
-        i += 1;
-    }
-    so_far
-}
-
-pub fn keep_all(seen: Seen, words: &[u64]) -> Seen {
-    let mut so_far = seen;
-    let mut i: usize = 0;
-    while i < words.len() {
-        so_far = keep(so_far, words[i] == KEPT);
-        i += 1;
-    }
-    so_far
-}
-
-// The words from one place to another are the line's next numbers, and all others are as they were.
-pub fn hold_written(line: &[u64], seen: Seen, words: &[u64], from: usize, to: usize) -> Seen {
-    let below = keep_all(seen, part(words, 0, from));
-    let held = hold_all(line, below, part(words, from, to));
-    keep_all(held, part(words, to, words.len()))
-}
-
-fn hold_column(line: &[u64], seen: Seen, column: u32, is_listed: bool) -> Seen {
-    if is_listed {
-        return hold(line, seen, column as u64);
-    }
-    keep(seen, column == KEPT_COLUMN)
-}
-
-// The same for columns, of which the first ones are written.
-pub fn hold_columns(line: &[u64], seen: Seen, columns: &[u32], count: usize) -> Seen {
-    let mut so_far = seen;
-    let mut i: usize = 0;
-    while i < columns.len() {
-        so_far = hold_column(line, so_far, columns[i], i < count);
-        i += 1;
-    }
-    so_far
 }

@@ -1,7 +1,7 @@
 // Runs the calls on programs over a sample of small programs with frames, on standard input, and holds each answer and
 // each word to the numbers there. The file stdin beside this is what `cargo run --release --offline -p differential`
 // prints in rust/; the head of rust/differential/src/programs/sample.rs says what the numbers are.
-ghost use mathlib.Core.Path.{_≡_};
+
 ghost use Prim.Native.Nat.{_<_};
 ghost use lib.ListN.{length};
 
@@ -9,17 +9,25 @@ mod answer;
 mod calls;
 mod limits;
 mod line;
+mod report;
+mod seen;
 mod text;
 
+use calls::hold_calls;
 use libc::STDIN_FILENO;
-use libc::STDOUT_FILENO;
+use limits::hold_limits;
+use line::NODE_WORDS;
 use line::NODES_AT;
-use line::Seen;
+use line::ROOTS;
 use line::case_of;
 use line::first;
 use line::narrow;
 use line::part;
 use line::times;
+use report::report;
+use report::say;
+use report::say_number;
+use seen::Seen;
 use text::read_numbers;
 
 fn replay(line: &[u64]) -> Seen {
@@ -28,57 +36,20 @@ fn replay(line: &[u64]) -> Seen {
     if line.len() < case.answers {
         return Seen::Cut;
     }
-    let mut nodes = [0u32; 256];
+    let mut nodes = [0u32; NODE_WORDS];
     if !narrow(part(line, NODES_AT, case.bases), &mut nodes) {
         return Seen::NoRoom;
     }
-    let mut roots = [0u32; 64];
+    let mut roots = [0u32; ROOTS];
     if !narrow(part(line, case.roots, case.main), &mut roots) {
         return Seen::NoRoom;
     }
-    calls::all(
+    hold_calls(
         line,
         case,
         first(&nodes, times(4, c.nodes)),
         first(&roots, c.roots),
     )
-}
-
-fn say(words: &[u8]) {
-    io::write_all(STDOUT_FILENO, words);
-}
-
-fn say_number(name: &[u8], x: u64) {
-    io::write_all(STDOUT_FILENO, name);
-    io::print_decimal(STDOUT_FILENO, x);
-}
-
-// Numbers of a line are counted from 0.
-fn report(line: &[u64], seen: Seen) {
-    match seen {
-        Seen::Agrees { at } => {
-            if at == line.len() {
-                say(b" agrees\n");
-            } else {
-                say(b" has numbers to spare\n");
-            }
-        }
-        Seen::Differs { at, found } => {
-            say_number(b": number ", at as u64);
-            say_number(b" has to be ", line::number_at(line, at));
-            say_number(b" and is ", found);
-            say(b"\n");
-        }
-        Seen::Touched { at } => {
-            say_number(
-                b": a word is written that has to stay, before number ",
-                at as u64,
-            );
-            say(b"\n");
-        }
-        Seen::Cut => say(b" is shorter than its counts say\n"),
-        Seen::NoRoom => say(b" needs more room than this program has\n"),
-    }
 }
 
 // Where the line ends that starts at a place; its first number says how many follow.
@@ -120,5 +91,5 @@ fn main() {
     } else {
         say(b"the sample is no decimal numbers, or too many\n");
     }
-    limits::all();
+    hold_limits();
 }

@@ -1,4 +1,5 @@
-//! The printed sample of programs: its lines hold what their description says, and the host gives the answers in them.
+//! The printed sample of programs: its lines hold what their description says, the host gives the answers in them, and
+//! the Rattle program that replays it reads the same lines.
 
 #![forbid(unsafe_code)]
 
@@ -138,6 +139,17 @@ fn host_gives_the_sample() {
     }
     println!("the sample: {} cases with answers {answered:?}", lines.len());
     assert_eq!(answered, BTreeSet::from([0, 7, 12, 13]));
+}
+
+/// The Rattle program that replays the sample has it in a file of its own.
+#[test]
+fn program_cases_has_the_sample() {
+    let kept = include_str!("../../../crates/program_cases/stdin");
+    let printed: String = cases().iter().map(|case| line(case) + "\n").collect();
+    assert!(
+        kept == printed,
+        "crates/program_cases/stdin is not the sample: write what `cargo run --release --offline -p differential` prints to it"
+    );
 }
 
 /// The answers in the sample are those of plain arithmetic; here the published Rust confirms those that are values.

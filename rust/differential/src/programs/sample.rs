@@ -1,5 +1,5 @@
-//! A fixed sample of small programs with frames and the answers that they have to get, as lines of numbers: for a
-//! program that cannot call the published Rust and holds the numbers as constants.
+//! A fixed sample of small programs with frames and the answers that they have to get, as lines of numbers: for the
+//! Rattle program `program_cases`, which cannot call the published Rust and reads them from its file `stdin`.
 //!
 //! One line is one case. Its numbers are decimal and one space apart; each fits 64 bits. In this order:
 //!

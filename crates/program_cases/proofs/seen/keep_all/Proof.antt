@@ -1,11 +1,11 @@
--- `line::keep_all` is safe and ends: the words that are left to read fall by one a turn.
+-- `seen::keep_all` is safe and ends: the words that are left to read fall by one a turn.
 -- Assumes nothing.
 use native.Mathlib.Omega.{arith}
 use borrow.Author.Needs.{needs}
 use lib.ListN.{length}
 use Prim.Native.Nat.{_-_}
-use Rattle.program_cases.proofs.line.keep_all.Statement.{statement}
-use Rattle.program_cases.proofs.line.keep_all.Tie as tie
+use Rattle.program_cases.proofs.seen.keep_all.Statement.{statement}
+use Rattle.program_cases.proofs.seen.keep_all.Tie as tie
 
 abbrev Inv-loop : tie.InvT-loop
 Inv-loop words so-far₀ i₀ so-far i = Unit {0}

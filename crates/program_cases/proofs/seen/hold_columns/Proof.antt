@@ -1,11 +1,11 @@
--- `line::hold_columns` is safe and ends: the columns that are left to read fall by one a turn.
+-- `seen::hold_columns` is safe and ends: the columns that are left to read fall by one a turn.
 -- Assumes nothing.
 use native.Mathlib.Omega.{arith}
 use borrow.Author.Needs.{needs}
 use lib.ListN.{length}
 use Prim.Native.Nat.{_-_}
-use Rattle.program_cases.proofs.line.hold_columns.Statement.{statement}
-use Rattle.program_cases.proofs.line.hold_columns.Tie as tie
+use Rattle.program_cases.proofs.seen.hold_columns.Statement.{statement}
+use Rattle.program_cases.proofs.seen.hold_columns.Tie as tie
 
 abbrev Inv-loop : tie.InvT-loop
 Inv-loop line columns count so-far₀ i₀ so-far i = Unit {0}

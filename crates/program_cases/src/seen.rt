@@ -1,0 +1,91 @@
+// What a case has come to, word by word.
+use super::line::part;
+
+pub enum Seen {
+    // The numbers before a place agree with what the calls gave.
+    Agrees { at: usize },
+    // A call gave another word than the number at a place.
+    Differs { at: usize, found: u64 },
+    // A call wrote a word that it has to leave, before it came to a place.
+    Touched { at: usize },
+    // The line ends before its tables or its answers do.
+    Cut,
+    // The line needs more room than this program has, or a word of 32 bits is none.
+    NoRoom,
+}
+
+// What a word that a call may write holds beforehand. No call writes it, since it is above p.
+pub const KEPT: u64 = 0xFFFF_FFFF_FFFF_FFFE;
+
+// The same for a column, which is below 131,072.
+pub const KEPT_COLUMN: u32 = 0xFFFF_FFFE;
+
+// Holds a word to the next number of the line. What has gone wrong before stays.
+pub fn hold(line: &[u64], seen: Seen, word: u64) -> Seen {
+    let Seen::Agrees { at } = seen else {
+        return seen;
+    };
+    if line.len() <= at {
+        return Seen::Cut;
+    }
+    if line[at] != word {
+        return Seen::Differs { at, found: word };
+    }
+    Seen::Agrees { at: at + 1 }
+}
+
+fn keep(seen: Seen, is_kept: bool) -> Seen {
+    let Seen::Agrees { at } = seen else {
+        return seen;
+    };
+    if is_kept {
+        Seen::Agrees { at }
+    } else {
+        Seen::Touched { at }
+    }
+}
+
+fn hold_all(line: &[u64], seen: Seen, words: &[u64]) -> Seen {
+    let mut so_far = seen;
+    let mut i: usize = 0;
+    while i < words.len() {
+        so_far = hold(line, so_far, words[i]);
+        i += 1;
+    }
+    so_far
+}
+
+pub fn keep_all(seen: Seen, words: &[u64]) -> Seen {
+    let mut so_far = seen;
+    let mut i: usize = 0;
+    while i < words.len() {
+        so_far = keep(so_far, words[i] == KEPT);
+        i += 1;
+    }
+    so_far
+}
+
+// The words from one place to another are the line's next numbers, and all others are as they were.
+pub fn hold_written(line: &[u64], seen: Seen, words: &[u64], from: usize, to: usize) -> Seen {
+    let below = keep_all(seen, part(words, 0, from));
+    let held = hold_all(line, below, part(words, from, to));
+    keep_all(held, part(words, to, words.len()))
+}
+
+fn hold_column(line: &[u64], seen: Seen, column: u32, is_listed: bool) -> Seen {
+    if is_listed {
+        return hold(line, seen, column as u64);
+    }
+    keep(seen, column == KEPT_COLUMN)
+}
+
+// The same for columns, of which the first ones are written.
+pub fn hold_columns(line: &[u64], seen: Seen, columns: &[u32], count: usize) -> Seen {
+    let mut so_far = seen;
+    let mut i: usize = 0;
+    while i < columns.len() {
+        so_far = hold_column(line, so_far, columns[i], i < count);
+        i += 1;
+    }
+    so_far
+}
