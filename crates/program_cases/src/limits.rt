@@ -1,52 +1,73 @@
-// Counts at their limits: with memory that is short, a count that may be gets 1, and one more gets 8 or 9. For nodes these
-// are figures of document 01.
-ghost use Prim.Native.Nat.{_<_};
+// Counts at their limits, with short memory: the most that may be gets 1, and one more gets 8 or 9. For nodes these are
+// figures of document 01.
 use super::calls::hold_calls;
-use super::line::NODES_AT;
-use super::line::case_of;
+use super::line::Case;
 use super::report::report;
 use super::report::say_number;
+use ir::frame::Shape;
+use ir::program::Counts;
 use ir::program::MOST;
 use ir::program::MOST32;
 
-// Where a line has each count.
-const NODES: usize = 1;
+// A case of counts alone: every table is the empty part at place 0, and the line has the answers only.
+fn bare(counts: Counts) -> Case {
+    Case {
+        counts,
+        shape: Shape {
+            steps: 0,
+            main: 0,
+            aux: 0,
+            challenges: 0,
+            alphas: 0,
+        },
+        bases: 0,
+        exts: 0,
+        roots: 0,
+        main: 0,
+        aux: 0,
+        challenges: 0,
+        alphas: 0,
+        wide: 0,
+        answers: 0,
+    }
+}
 
-const BASES: usize = 2;
-
-const EXTS: usize = 3;
-
-const ROOTS: usize = 4;
-
-const NUM_BASE: usize = 5;
-
-// A line of one count and no tables: the five answers follow at once.
-fn limit(name: &[u8], place: usize, count: usize, answer: u64)
-    requires { ⌜ place < 19 ⌝ }
-{
-    let mut line = [0u64; 19];
-    line[place] = count as u64;
-    line[14] = answer;
-    line[15] = answer;
-    line[16] = answer;
-    line[17] = answer;
-    line[18] = answer;
-    let mut case = case_of(&line);
-    case.answers = NODES_AT;
+fn limit(name: &[u8], count: usize, c: Counts, answer: u64) {
+    let line = [answer; 5];
     let short = [0u32; 1];
     say_number(name, count as u64);
     say_number(b" and answer ", answer);
-    report(&line, hold_calls(&line, case, &short, &short));
+    report(&line, hold_calls(&line, bare(c), &short, &short));
+}
+
+fn counts(nodes: usize, bases: usize, exts: usize, roots: usize, num_base: usize) -> Counts {
+    Counts {
+        nodes,
+        bases,
+        exts,
+        roots,
+        num_base,
+    }
 }
 
 pub fn hold_limits() {
-    limit(b"nodes ", NODES, MOST, 1);
-    limit(b"nodes ", NODES, MOST + 1, 8);
-    limit(b"base constants ", BASES, MOST, 1);
-    limit(b"base constants ", BASES, MOST + 1, 8);
-    limit(b"extension constants ", EXTS, MOST, 1);
-    limit(b"extension constants ", EXTS, MOST + 1, 8);
-    limit(b"roots ", ROOTS, MOST32, 1);
-    limit(b"roots ", ROOTS, MOST32 + 1, 9);
-    limit(b"num_base ", NUM_BASE, MOST32 + 1, 9);
+    limit(b"nodes ", MOST, counts(MOST, 0, 0, 0, 0), 1);
+    limit(b"nodes ", MOST + 1, counts(MOST + 1, 0, 0, 0, 0), 8);
+    limit(b"base constants ", MOST, counts(0, MOST, 0, 0, 0), 1);
+    limit(
+        b"base constants ",
+        MOST + 1,
+        counts(0, MOST + 1, 0, 0, 0),
+        8,
+    );
+    limit(b"extension constants ", MOST, counts(0, 0, MOST, 0, 0), 1);
+    limit(
+        b"extension constants ",
+        MOST + 1,
+        counts(0, 0, MOST + 1, 0, 0),
+        8,
+    );
+    limit(b"roots ", MOST32, counts(0, 0, 0, MOST32, 0), 1);
+    limit(b"roots ", MOST32 + 1, counts(0, 0, 0, MOST32 + 1, 0), 9);
+    limit(b"num_base ", MOST32 + 1, counts(0, 0, 0, 0, MOST32 + 1), 9);
 }

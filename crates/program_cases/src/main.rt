@@ -81,15 +81,19 @@ fn replay_all(numbers: &[u64]) {
     }
 }
 
-fn main() {
-    let mut text = io::large_buffer();
-    let length = io::read_full(STDIN_FILENO, &mut text);
+fn replay_text(text: &[u8]) {
     let mut numbers = [0u64; 8192];
-    let r = read_numbers(&text[..length], &mut numbers);
+    let r = read_numbers(text, &mut numbers);
     if r.good {
         replay_all(part(&numbers, 0, r.count));
     } else {
         say(b"the sample is no decimal numbers, or too many\n");
     }
+}
+
+fn main() {
+    let mut text = io::large_buffer();
+    let length = io::read_full(STDIN_FILENO, &mut text);
+    replay_text(&text[..length]);
     hold_limits();
 }
