@@ -28,7 +28,7 @@ use ir::program::check_program;
 use ir::reads::Columns;
 use ir::reads::next_row_trace_reads;
 
-// Three words a constraint.
+// Room for three words a constraint.
 const EXT_WORDS: usize = 192;
 
 fn offset_of(line: &[u64]) -> Ext {

@@ -6,8 +6,11 @@ use super::report::report;
 use super::report::say_number;
 use ir::frame::Shape;
 use ir::program::Counts;
-use ir::program::MOST;
-use ir::program::MOST32;
+
+// Document 01's numbers, written out: the code's own constants are what is tried.
+const MOST: usize = 536870911;
+
+const MOST32: usize = 4294967295;
 
 // A case of counts alone: every table is the empty part at place 0, and the line has the answers only.
 fn bare(counts: Counts) -> Case {

@@ -3,8 +3,8 @@
 use ir::frame::Shape;
 use ir::program::Counts;
 
-// What a line says of its program and frame, and where each table starts: it ends where the next one starts. The
-// answers come last.
+// What a line says of its program and frame, and where each table starts: it ends where the next one starts. The wide
+// table is the verifier's main cells; the answers come last.
 pub struct Case {
     pub counts: Counts,
     pub shape: Shape,

@@ -1,7 +1,6 @@
 // Runs the calls on programs over a sample of small programs with frames, on standard input, and holds each answer and
 // each word to the numbers there. The file stdin beside this is what `cargo run --release --offline -p differential`
 // prints in rust/; the head of rust/differential/src/programs/sample.rs says what the numbers are.
-
 ghost use Prim.Native.Nat.{_<_};
 ghost use lib.ListN.{length};
 
@@ -30,6 +29,7 @@ use report::say_number;
 use seen::Seen;
 use text::read_numbers;
 
+// The tables are lent exactly as long as the counts say.
 fn replay(line: &[u64]) -> Seen {
     let case = case_of(line);
     let c = case.counts;
@@ -87,13 +87,16 @@ fn replay_text(text: &[u8]) {
     if r.good {
         replay_all(part(&numbers, 0, r.count));
     } else {
-        say(b"the sample is no decimal numbers, or too many\n");
+        say(b"the sample has something else than decimal numbers, or too many of them\n");
     }
 }
 
 fn main() {
     let mut text = io::large_buffer();
     let length = io::read_full(STDIN_FILENO, &mut text);
+    if length == 65536 {
+        say(b"the sample is longer than this program reads\n");
+    }
     replay_text(&text[..length]);
     hold_limits();
 }
