@@ -9,4 +9,5 @@ pub mod ReadyLaws
 pub mod RefuseLaws
 pub mod RunLaws
 pub mod Single
+pub mod TrialLaws
 pub mod ValueLaws

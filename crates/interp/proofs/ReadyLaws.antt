@@ -22,15 +22,7 @@ use Rattle.interp.specs.declared.frame.Limits.{Limits}
 use Rattle.interp.specs.declared.frame.Strides.{Strides}
 use Rattle.interp.specs.Frame.{Lent, cellOutside, outside, nodeOutside, MainIn, CellIn, LeafIn, proverStrides, verifierStrides, rowStrides, frameLimits, rowLimits}
 use Rattle.interp.specs.Operations.{NodeReady, Ready}
-
--- the lent memory has what the limits allow a leaf to name
-pub record Fits (s : Strides) (m : Limits) (c : Counts) (l : Lent) : Type 0 where
-  pub bases : c .bases ≤ length (l .bases)
-  pub exts : 3 * c .exts ≤ length (l .exts)
-  pub main : (step col : ℕ) → step < m .steps → col < m .main → MainIn (s .wide) (step * s .main + col) (length (l .main))
-  pub aux : (step col : ℕ) → step < m .steps → col < m .aux → 3 * (step * s .aux + col) + 3 ≤ length (l .aux)
-  pub challenges : 3 * m .challenges ≤ length (l .challenges)
-  pub alphas : 3 * m .alphas ≤ length (l .alphas)
+use Rattle.interp.specs.Trial.{Fits}
 
 module _ (s : Strides) (m : Limits) (c : Counts) (l : Lent) (f : Fits s m c l) where
   cell-ready : (x y : ℕ) → cellOutside m x y ≡ false → CellIn s x y (length (l .main)) (length (l .aux))
@@ -67,20 +59,23 @@ module _ (s : Strides) (m : Limits) (c : Counts) (l : Lent) (f : Fits s m c l) w
       ten : {t : ℕ} → 9 ≤ t → (t ≡ 9 → ⊥) → t ≤ 10 → t ≡ 10
       ten a b d = omega arith
 
+  -- one node that is well-formed and inside
+  pub node-ready : (nodes : List ℕ) (i : ℕ) → NodeFacts c nodes i (nodeAt nodes i) → nodeOutside m nodes i ≡ false → NodeReady s l i (nodeAt nodes i .tag) (nodeAt nodes i .x) (nodeAt nodes i .y)
+  node-ready nodes i n h =
+      let t = nodeAt nodes i in
+      record {
+        known = n .known;
+        leaf-in = λ r. leaf-ready nodes i (t .tag) (t .x) (t .y) (t .dim) n h;
+        first-operand = λ r. first-below nodes i (t .tag) (t .x) (t .y) (t .dim) n r;
+        second-operand = λ r v. n .binary r (omega arith) .1;
+      }
+
   pub ready : (nodes roots : List ℕ) (room : ℕ) → WellFormed c nodes roots → lowest (nodeOutside m nodes) (c .nodes) ≡ none → 4 * c .nodes ≤ length nodes → 4 * c .nodes ≤ room → Ready s nodes (c .nodes) l room
   ready nodes roots room w h a b =
       record {
         nodes-long = a;
         room-long = b;
-        node = λ i q.
-            let n = w .node i q in
-            let t = nodeAt nodes i in
-            record {
-              known = n .known;
-              leaf-in = λ r. leaf-ready nodes i (t .tag) (t .x) (t .y) (t .dim) n (lowest-none (nodeOutside m nodes) (c .nodes) h i q);
-              first-operand = λ r. first-below nodes i (t .tag) (t .x) (t .y) (t .dim) n r;
-              second-operand = λ r v. n .binary r (omega arith) .1;
-            };
+        node = λ i q. node-ready nodes i (w .node i q) (lowest-none (nodeOutside m nodes) (c .nodes) h i q);
       }
 
 -- ---- the three frames

@@ -5,5 +5,6 @@ pub mod ExampleE
 pub mod Frame
 pub mod Operations
 pub mod Room
+pub mod Trial
 pub mod Values
 pub mod Writes

@@ -4,4 +4,5 @@ pub mod frame;
 pub mod interp;
 pub mod refuse;
 pub mod run;
+pub mod trial;
 pub mod value;

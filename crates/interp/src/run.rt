@@ -18,7 +18,7 @@ use super::value::operation;
 use field::extensions_goldilocks::Ext;
 use ir::node::OP_ADD;
 
-fn node_value(
+pub fn node_value(
     i: usize,
     tag: u32,
     x: u32,
@@ -55,7 +55,7 @@ fn node_value(
     }
 }
 
-fn store_value(room: &mut [u64], i: usize, v: Value)
+pub fn store_value(room: &mut [u64], i: usize, v: Value)
     requires { ⌜ 4 * i + 4 ≤ length (now room) ⌝ }
     ensures { λ _. ⌜ now (room .exit) ≡ sets (now (room .entry)) (4 * i) (v .class ∷ tabulate 3 (limb (v .limbs .limbs))) ⌝ }
 {

@@ -162,7 +162,7 @@ fn unary_ok(tag: u32, y: u32, dim: u32, operand: u32) -> bool
     }
 }
 
-fn operation_ok(nodes: &[u32], i: usize, tag: u32, x: u32, y: u32, dim: u32) -> bool
+pub fn operation_ok(nodes: &[u32], i: usize, tag: u32, x: u32, y: u32, dim: u32) -> bool
     requires { ⌜ 4 * i ≤ length (now nodes) ⌝ }
     ensures { λ r. ⌜ r ≡ operationOk (now (nodes .entry)) i (record { tag = tag; x = x; y = y; dim = dim }) ⌝ }
 {
@@ -205,7 +205,7 @@ fn lowest_bad_node(c: Counts, nodes: &[u32]) -> Place
     Place::Nowhere
 }
 
-fn lowest_bad_root(c: Counts, roots: &[u32]) -> Place
+pub fn lowest_bad_root(c: Counts, roots: &[u32]) -> Place
     requires { ⌜ c .roots ≤ length (now roots) ⌝ }
     ensures { λ r. ⌜ placeOf r ≡ lowest (λ i. leb (c .nodes) (getD (now (roots .entry)) i 0)) (c .roots) ⌝ }
 {
