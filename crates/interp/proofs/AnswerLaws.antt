@@ -37,6 +37,11 @@ use Rattle.interp.proofs.RefuseLaws.{MemoryOk, memory-ok, FormOk, form-
 
 -- ---- the promise, refused and done
 
+-- no row holds
+pub answer-quiet : (rows : List Row) {env : ℕ → Value ℕ (List ℕ)} {n leading count : ℕ} {roots base base′ ext ext′ room room′ : List ℕ} → anyHolds rows ≡ false → Completes env n leading count roots base base′ ext ext′ room room′ → Evaluates rows env n leading count roots Done base base′ ext ext′ room room′
+answer-quiet rows q w =
+    record { said = sym (first-none rows (gives []) q); base-evals = rw q (w .base-written); ext-evals = rw q (w .ext-written); room-kept = λ t. clash t q; room-holds = λ t. w .room-holds }
+
 module _ (rows : List Row) {env : ℕ → Value ℕ (List ℕ)} {n leading count : ℕ} {roots : List ℕ} {o : Outcome} (h : saidOfOutcome o ≡ first rows (gives [])) where
   pub answer-refused : {why : Refusal} {base ext room : List ℕ} → o ≡ Refused why → Evaluates rows env n leading count roots (Refused why) base base ext ext room room
   answer-refused e =
@@ -44,9 +49,7 @@ module _ (rows : List Row) {env : ℕ → Value ℕ (List ℕ)} {n leading count
       record { said = rw e at h; base-evals = rw l; ext-evals = rw l; room-kept = λ q. refl; room-holds = λ q. clash l q }
 
   pub answer-done : {base base′ ext ext′ room room′ : List ℕ} → numbered rows ≡ true → o ≡ Done → Completes env n leading count roots base base′ ext ext′ room room′ → Evaluates rows env n leading count roots Done base base′ ext ext′ room room′
-  answer-done m e w =
-      let q = done-rows rows m e h in
-      record { said = rw e at h; base-evals = rw q (w .base-written); ext-evals = rw q (w .ext-written); room-kept = λ t. clash t q; room-holds = λ t. w .room-holds }
+  answer-done m e w = answer-quiet rows (done-rows rows m e h) w
 
 -- ---- rows in two parts
 

@@ -1,5 +1,6 @@
 -- Laws of the evaluators.
 pub mod AnswerLaws
+pub mod AttemptLaws
 pub mod ClassLaws
 pub mod EvalLaws
 pub mod OperationLaws

@@ -2,19 +2,25 @@
 -- Assumes nothing.
 use mathlib.Core.Bool.{Bool, true, false, cond}
 use mathlib.Core.List.{List}
+use mathlib.Core.Option.{none}
 use mathlib.Core.Path.{_≡_}
 use Prim.Native.Nat.{ℕ, _+_, _*_, _<_, _≤_}
-use lib.Dec.{eqb, ltb}
-use lib.ListN.{length}
+use lib.Dec.{eqb, leb, ltb}
+use lib.ListN.{length, getD}
+use Rattle.laws.specs.Folds.{lowest}
 use Rattle.field.specs.Tower.{goldilocks}
 use Rattle.ir.specs.declared.program.Counts.{Counts}
+use Rattle.ir.specs.declared.frame.Shape.{Shape}
 use Rattle.ir.specs.Words.{Node, nodeAt, constExt, rapChallenge, alphaPow, add}
 use Rattle.ir.specs.Program.{leafOk, operationOk}
+use Rattle.ir.specs.Refusals.{Row, anyHolds}
+use Rattle.interp.specs.declared.frame.Lengths.{Lengths}
 use Rattle.interp.specs.declared.frame.Limits.{Limits}
 use Rattle.interp.specs.declared.frame.Strides.{Strides}
-use Rattle.interp.specs.Values.{values}
+use Rattle.interp.specs.Values.{Value, values}
 use Rattle.interp.specs.Frame.{Lent, leaves, outside, MainIn}
 use Rattle.interp.specs.Room.{RoomHolds}
+use Rattle.interp.specs.Evaluation.{shortEvals, extRoot, memoryRows}
 
 -- ---- what it asks
 
@@ -69,4 +75,22 @@ pub record Tried (s : Strides) (m : Limits) (c : Counts) (l : Lent) (nodes old n
 -- or some node did not, and the room is as it was
 pub record Trial (s : Strides) (m : Limits) (c : Counts) (l : Lent) (nodes old new : List ℕ) (passed : Bool) : Type 0 where
   pub done : passed ≡ true → Tried s m c l nodes old new
+  pub kept : passed ≡ false → new ≡ old
+
+-- ---- the plain evaluator's attempt
+
+-- what it looks at in the roots and the eval buffers: 14 and 12 let them through, and so does 7
+pub record RootsFit (c : Counts) (base ext : ℕ) (nodes roots : List ℕ) : Type 0 where
+  pub evals-long : shortEvals c base ext ≡ false
+  pub roots-below : lowest (λ r. leb (c .nodes) (getD roots r 0)) (c .roots) ≡ none
+  pub roots-base : extRoot c nodes roots ≡ none
+
+pub record Sufficient (c : Counts) (s : Shape) (l : Lengths) (base ext : ℕ) (nodes roots : List ℕ) : Type 0 where
+  pub memory : anyHolds (memoryRows c s 1 l) ≡ false
+  pub roots-fit : RootsFit c base ext nodes roots
+
+-- no row refuses, and the room has the values; or the room is as it was
+pub record Attempt (rows : List Row) (env : ℕ → Value ℕ (List ℕ)) (n : ℕ) (old new : List ℕ) (passed : Bool) : Type 0 where
+  pub quiet : passed ≡ true → anyHolds rows ≡ false
+  pub holds : passed ≡ true → RoomHolds env n old new
   pub kept : passed ≡ false → new ≡ old

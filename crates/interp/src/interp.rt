@@ -1,5 +1,6 @@
 // The three evaluators over lent memory. A refusal leaves every lent word as it was; the room of four words a
 // node may hold anything on entry, and holds every node's class and limbs after success.
+ghost use mathlib.Core.Bool.{true};
 ghost use mathlib.Core.List.{[]};
 ghost use mathlib.Core.Path.{_≡_};
 ghost use Prim.Native.Nat.{ℕ, _<_};
@@ -7,11 +8,12 @@ ghost use lib.ListN.{length, getD};
 ghost use Rattle.field.specs.Tower.{goldilocks};
 ghost use Rattle.ir.specs.Refusals.{saidOfOutcome, first, gives};
 ghost use Rattle.interp.specs.Values.{values};
-ghost use Rattle.interp.specs.Frame.{lent, rowLent, leaves, rowStrides, frameLimits, rowLimits};
+ghost use Rattle.interp.specs.Frame.{lent, rowLent, leaves, proverStrides, rowStrides, frameLimits, rowLimits};
 ghost use Rattle.interp.specs.Operations.{Ready};
 ghost use Rattle.interp.specs.Writes.{RootsIn, Completes};
-ghost use Rattle.interp.specs.Evaluation.{TablesOk, proverRest, proverRows, verifierRest, verifierRows, rowRest, rowRows, ProverAnswer, VerifierAnswer, RowAnswer};
+ghost use Rattle.interp.specs.Evaluation.{TablesOk, proverRest, proverRows, verifierRest, verifierRows, rowRest, rowRows, lengths, ProverAnswer, VerifierAnswer, RowAnswer};
 ghost use Rattle.interp.specs.Room.{RoomHolds};
+ghost use Rattle.interp.specs.Trial.{Sufficient, Attempt};
 use super::evals::write_roots;
 use super::frame::Lengths;
 use super::frame::Limits;
@@ -20,8 +22,10 @@ use super::refuse::form_refusal;
 use super::refuse::lowest_ext_root;
 use super::refuse::memory_refusal;
 use super::refuse::root_is_ext;
+use super::refuse::roots_fit;
 use super::refuse::short_evals;
 use super::run::run;
+use super::trial::try_program;
 use field::extensions_goldilocks::Ext;
 use field::goldilocks::Fp;
 use ir::frame::Shape;
@@ -130,8 +134,8 @@ fn evaluate(
     );
 }
 
-// The plain evaluator: base constraints into base_evals, the others into ext_evals.
-pub fn eval_program(
+// Every refusal in its order, then the evaluation: a pass for each.
+fn eval_in_steps(
     c: Counts,
     s: Shape,
     offset: Ext,
@@ -189,6 +193,143 @@ pub fn eval_program(
             Outcome::Done
         }
     }
+}
+
+// Whether the memory suffices, and the roots are as they have to be.
+fn sufficient(
+    c: Counts,
+    s: Shape,
+    l: Lengths,
+    base: usize,
+    ext: usize,
+    nodes: &[u32],
+    roots: &[u32],
+) -> bool
+    requires { ⌜ (l .nodes ≡ length (now nodes)) × (l .roots ≡ length (now roots)) ⌝ }
+    ensures { λ r. ⌜ (r ≡ true → Sufficient c s l base ext (now (nodes .entry)) (now (roots .entry))) ⌝ }
+{
+    match memory_refusal(c, s, 1, l) {
+        Outcome::Refused(_) => false,
+        Outcome::Done => roots_fit(c, base, ext, nodes, roots),
+    }
+}
+
+// The whole check and the evaluation with one pass over the nodes. Where it says false, for a program that is refused or
+// too large for it, nothing was written.
+fn attempt(
+    c: Counts,
+    s: Shape,
+    offset: Ext,
+    base: usize,
+    ext: usize,
+    nodes: &[u32],
+    bases: &[u64],
+    exts: &[u64],
+    roots: &[u32],
+    main: &[u64],
+    aux: &[u64],
+    challenges: &[u64],
+    alphas: &[u64],
+    room: &mut [u64],
+) -> bool
+    ensures { λ r. ⌜ Attempt (proverRows c s (lengths (now (nodes .entry)) (now (roots .entry)) (lent (now (bases .entry)) (now (exts .entry)) (now (main .entry)) (now (aux .entry)) (now (challenges .entry)) (now (alphas .entry)) (offset .limbs)) (now (room .entry))) base ext (frameLimits s) (now (nodes .entry)) (now (roots .entry))) (values goldilocks (leaves (proverStrides s) (lent (now (bases .entry)) (now (exts .entry)) (now (main .entry)) (now (aux .entry)) (now (challenges .entry)) (now (alphas .entry)) (offset .limbs))) (now (nodes .entry)) (c .nodes)) (c .nodes) (now (room .entry)) (now (room .exit)) r ⌝ }
+{
+    let l = Lengths {
+        nodes: nodes.len(),
+        bases: bases.len(),
+        exts: exts.len(),
+        roots: roots.len(),
+        main: main.len(),
+        aux: aux.len(),
+        challenges: challenges.len(),
+        alphas: alphas.len(),
+        room: room.len(),
+    };
+    if !sufficient(c, s, l, base, ext, nodes, roots) {
+        return false;
+    }
+    let t = Strides {
+        wide: false,
+        main: s.main,
+        aux: s.aux,
+    };
+    try_program(
+        c,
+        frame_limits(s),
+        t,
+        offset,
+        nodes,
+        bases,
+        exts,
+        main,
+        aux,
+        challenges,
+        alphas,
+        &mut room[..],
+    )
+}
+
+// The plain evaluator: base constraints into base_evals, the others into ext_evals.
+pub fn eval_program(
+    c: Counts,
+    s: Shape,
+    offset: Ext,
+    nodes: &[u32],
+    bases: &[u64],
+    exts: &[u64],
+    roots: &[u32],
+    main: &[u64],
+    aux: &[u64],
+    challenges: &[u64],
+    alphas: &[u64],
+    base: &mut [u64],
+    ext: &mut [u64],
+    room: &mut [u64],
+) -> Outcome
+    ensures { λ r. ⌜ ProverAnswer c s (now (nodes .entry)) (now (roots .entry)) (lent (now (bases .entry)) (now (exts .entry)) (now (main .entry)) (now (aux .entry)) (now (challenges .entry)) (now (alphas .entry)) (offset .limbs)) r (now (base .entry)) (now (base .exit)) (now (ext .entry)) (now (ext .exit)) (now (room .entry)) (now (room .exit)) ⌝ }
+{
+    if attempt(
+        c,
+        s,
+        offset,
+        base.len(),
+        ext.len(),
+        nodes,
+        bases,
+        exts,
+        roots,
+        main,
+        aux,
+        challenges,
+        alphas,
+        &mut room[..],
+    ) {
+        write_roots(
+            c.roots,
+            c.num_base,
+            roots,
+            &room[..],
+            &mut base[..],
+            &mut ext[..],
+        );
+        return Outcome::Done;
+    }
+    eval_in_steps(
+        c,
+        s,
+        offset,
+        nodes,
+        bases,
+        exts,
+        roots,
+        main,
+        aux,
+        challenges,
+        alphas,
+        &mut base[..],
+        &mut ext[..],
+        &mut room[..],
+    )
 }
 
 // 14, 7 and 13, once the memory suffices.

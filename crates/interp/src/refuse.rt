@@ -1,5 +1,5 @@
 // The refusals that the evaluators share, in document 01's order: 8, 9, 2, 1, then, after a call's own, 7 and 13.
-ghost use mathlib.Core.Bool.{false, not, _&&_};
+ghost use mathlib.Core.Bool.{true, false, not, _&&_};
 ghost use mathlib.Core.List.{[]};
 ghost use mathlib.Core.Path.{_≡_};
 ghost use Prim.Native.Nat.{_+_, _*_, _≤_};
@@ -11,7 +11,8 @@ ghost use Rattle.ir.specs.Program.{tooManyNodes, tooManyRoots};
 ghost use Rattle.ir.specs.Shape.{overShape};
 ghost use Rattle.ir.specs.Refusals.{placeOf, saidOfOutcome, first, gives};
 ghost use Rattle.interp.specs.Frame.{cellOutside, outside, nodeOutside};
-ghost use Rattle.interp.specs.Evaluation.{shortFrame, shortMemory, memoryRows, formRows, shortEvals, extRoot, RootsBelow};
+ghost use Rattle.interp.specs.Evaluation.{shortFrame, shortMemory, memoryRows, formRows, shortEvals, extRoot, TablesOk, RootsBelow};
+ghost use Rattle.interp.specs.Trial.{RootsFit};
 use super::frame::Lengths;
 use super::frame::Limits;
 use ir::frame::Shape;
@@ -22,6 +23,7 @@ use ir::node::OP_TABLE_OFFSET;
 use ir::node::OP_VAR;
 use ir::program::Counts;
 use ir::program::ill_formed;
+use ir::program::lowest_bad_root;
 use ir::program::short_tables;
 use ir::program::too_many_nodes;
 use ir::program::too_many_roots;
@@ -188,4 +190,21 @@ pub fn lowest_ext_root(c: Counts, nodes: &[u32], roots: &[u32]) -> Place
         i += 1;
     }
     Place::Nowhere
+}
+
+// Whether 14, the roots' part of 7, and 12 let a call through.
+pub fn roots_fit(c: Counts, base: usize, ext: usize, nodes: &[u32], roots: &[u32]) -> bool
+    requires { ⌜ TablesOk c (length (now nodes)) (length (now roots)) ⌝ }
+    ensures { λ r. ⌜ (r ≡ true → RootsFit c base ext (now (nodes .entry)) (now (roots .entry))) ⌝ }
+{
+    if short_evals(c, base, ext) {
+        return false;
+    }
+    match lowest_bad_root(c, roots) {
+        Place::At(_) => false,
+        Place::Nowhere => match lowest_ext_root(c, nodes, roots) {
+            Place::At(_) => false,
+            Place::Nowhere => true,
+        },
+    }
 }

@@ -168,3 +168,218 @@ fn copy_words(from: &[u64], to: &mut [u64], count: usize)
         i += 1;
     }
 }
+
+// The trial in a room that is lent for it; the other room is written at the end.
+fn try_in(
+    c: Counts,
+    m: Limits,
+    s: Strides,
+    offset: Ext,
+    nodes: &[u32],
+    bases: &[u64],
+    exts: &[u64],
+    main: &[u64],
+    aux: &[u64],
+    challenges: &[u64],
+    alphas: &[u64],
+    own: &mut [u64],
+    room: &mut [u64],
+) -> bool
+    requires { ⌜ Tryable s m c (lent (now bases) (now exts) (now main) (now aux) (now challenges) (now alphas) (offset .limbs)) (length (now nodes)) (length (now own)) × (4 * c .nodes ≤ length (now room)) ⌝ }
+    ensures { λ r. ⌜ Trial s m c (lent (now (bases .entry)) (now (exts .entry)) (now (main .entry)) (now (aux .entry)) (now (challenges .entry)) (now (alphas .entry)) (offset .limbs)) (now (nodes .entry)) (now (room .entry)) (now (room .exit)) r ⌝ }
+{
+    if !try_nodes(
+        c,
+        m,
+        s,
+        offset,
+        nodes,
+        bases,
+        exts,
+        main,
+        aux,
+        challenges,
+        alphas,
+        &mut own[..],
+    ) {
+        return false;
+    }
+    copy_words(&own[..], &mut room[..], 4 * c.nodes);
+    true
+}
+
+fn try_small(
+    c: Counts,
+    m: Limits,
+    s: Strides,
+    offset: Ext,
+    nodes: &[u32],
+    bases: &[u64],
+    exts: &[u64],
+    main: &[u64],
+    aux: &[u64],
+    challenges: &[u64],
+    alphas: &[u64],
+    room: &mut [u64],
+) -> bool
+    requires { ⌜ Tryable s m c (lent (now bases) (now exts) (now main) (now aux) (now challenges) (now alphas) (offset .limbs)) (length (now nodes)) (length (now room)) × (c .nodes ≤ 128) ⌝ }
+    ensures { λ r. ⌜ Trial s m c (lent (now (bases .entry)) (now (exts .entry)) (now (main .entry)) (now (aux .entry)) (now (challenges .entry)) (now (alphas .entry)) (offset .limbs)) (now (nodes .entry)) (now (room .entry)) (now (room .exit)) r ⌝ }
+{
+    let mut own = [0u64; 512];
+    try_in(
+        c,
+        m,
+        s,
+        offset,
+        nodes,
+        bases,
+        exts,
+        main,
+        aux,
+        challenges,
+        alphas,
+        &mut own[..],
+        &mut room[..],
+    )
+}
+
+fn try_middle(
+    c: Counts,
+    m: Limits,
+    s: Strides,
+    offset: Ext,
+    nodes: &[u32],
+    bases: &[u64],
+    exts: &[u64],
+    main: &[u64],
+    aux: &[u64],
+    challenges: &[u64],
+    alphas: &[u64],
+    room: &mut [u64],
+) -> bool
+    requires { ⌜ Tryable s m c (lent (now bases) (now exts) (now main) (now aux) (now challenges) (now alphas) (offset .limbs)) (length (now nodes)) (length (now room)) × (c .nodes ≤ 1024) ⌝ }
+    ensures { λ r. ⌜ Trial s m c (lent (now (bases .entry)) (now (exts .entry)) (now (main .entry)) (now (aux .entry)) (now (challenges .entry)) (now (alphas .entry)) (offset .limbs)) (now (nodes .entry)) (now (room .entry)) (now (room .exit)) r ⌝ }
+{
+    let mut own = [0u64; 4096];
+    try_in(
+        c,
+        m,
+        s,
+        offset,
+        nodes,
+        bases,
+        exts,
+        main,
+        aux,
+        challenges,
+        alphas,
+        &mut own[..],
+        &mut room[..],
+    )
+}
+
+fn try_large(
+    c: Counts,
+    m: Limits,
+    s: Strides,
+    offset: Ext,
+    nodes: &[u32],
+    bases: &[u64],
+    exts: &[u64],
+    main: &[u64],
+    aux: &[u64],
+    challenges: &[u64],
+    alphas: &[u64],
+    room: &mut [u64],
+) -> bool
+    requires { ⌜ Tryable s m c (lent (now bases) (now exts) (now main) (now aux) (now challenges) (now alphas) (offset .limbs)) (length (now nodes)) (length (now room)) × (c .nodes ≤ 8192) ⌝ }
+    ensures { λ r. ⌜ Trial s m c (lent (now (bases .entry)) (now (exts .entry)) (now (main .entry)) (now (aux .entry)) (now (challenges .entry)) (now (alphas .entry)) (offset .limbs)) (now (nodes .entry)) (now (room .entry)) (now (room .exit)) r ⌝ }
+{
+    let mut own = [0u64; 32768];
+    try_in(
+        c,
+        m,
+        s,
+        offset,
+        nodes,
+        bases,
+        exts,
+        main,
+        aux,
+        challenges,
+        alphas,
+        &mut own[..],
+        &mut room[..],
+    )
+}
+
+// By size: a room of its own is cleared first, which takes time in proportion to it. A program that is larger than the
+// largest is not tried.
+pub fn try_program(
+    c: Counts,
+    m: Limits,
+    s: Strides,
+    offset: Ext,
+    nodes: &[u32],
+    bases: &[u64],
+    exts: &[u64],
+    main: &[u64],
+    aux: &[u64],
+    challenges: &[u64],
+    alphas: &[u64],
+    room: &mut [u64],
+) -> bool
+    requires { ⌜ Tryable s m c (lent (now bases) (now exts) (now main) (now aux) (now challenges) (now alphas) (offset .limbs)) (length (now nodes)) (length (now room)) ⌝ }
+    ensures { λ r. ⌜ Trial s m c (lent (now (bases .entry)) (now (exts .entry)) (now (main .entry)) (now (aux .entry)) (now (challenges .entry)) (now (alphas .entry)) (offset .limbs)) (now (nodes .entry)) (now (room .entry)) (now (room .exit)) r ⌝ }
+{
+    let n = c.nodes;
+    if n <= 128 {
+        return try_small(
+            c,
+            m,
+            s,
+            offset,
+            nodes,
+            bases,
+            exts,
+            main,
+            aux,
+            challenges,
+            alphas,
+            &mut room[..],
+        );
+    }
+    if n <= 1024 {
+        return try_middle(
+            c,
+            m,
+            s,
+            offset,
+            nodes,
+            bases,
+            exts,
+            main,
+            aux,
+            challenges,
+            alphas,
+            &mut room[..],
+        );
+    }
+    if n <= 8192 {
+        return try_large(
+            c,
+            m,
+            s,
+            offset,
+            nodes,
+            bases,
+            exts,
+            main,
+            aux,
+            challenges,
+            alphas,
+            &mut room[..],
+        );
+    }
+    false
+}

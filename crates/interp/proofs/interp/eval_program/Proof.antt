@@ -1,39 +1,27 @@
--- `eval_program` meets its contract.
+-- `eval_program` meets its contract: the attempt's answer, or that of the steps.
 -- Assumes nothing.
-use Rattle.interp.proofs.AnswerLaws.{answer-refused, answer-done, prover-ok, prover-asked}
+use Rattle.interp.proofs.AnswerLaws.{answer-quiet, prover-ok, prover-asked}
+use Rattle.interp.proofs.EvalLaws.{completes}
 use Rattle.interp.specs.Evaluation.{proverRows, lengths}
 use Rattle.interp.specs.Frame.{lent, frameLimits}
-use Rattle.ir.proofs.RefusalLaws.{done-rows}
 use lib.ListN.{length}
-use mathlib.Core.Path.{refl}
 use borrow.Author.Needs.{needs}
 use Rattle.interp.proofs.interp.eval_program.Statement.{statement}
 use Rattle.interp.proofs.interp.eval_program.Tie as tie
 
-prover-refusal-requires : tie.Need-prover-refusal-requires
-prover-refusal-requires c κs = search needs
+attempt-requires : tie.Need-attempt-requires
+attempt-requires c κs = search needs
 
-enum-known-why : tie.Need-enum-known-why
-enum-known-why c = search needs
-
-enum-told : tie.Need-enum-told
-enum-told c = search needs
-
-evaluate-requires : tie.Need-evaluate-requires
-evaluate-requires c κs =
-    let a = c .before .before .before .before .before .before .before .before .before .before .before .before .before .before .before .before .before .args in
+write-roots-requires : tie.Need-write-roots-requires
+write-roots-requires c κs =
+    let a = c .before .before .before .before .before .before .before .before .before .before .before .before .before .before .before .before .before .before .before .args in
+    let t = c .before .before .before .before .before .before .attempt .ensures in
+    let e = c .before .before .before .if1 .taken in
     let l = lent (a .bases .now) (a .exts .now) (a .main .now) (a .aux .now) (a .challenges .now) (a .alphas .now) (a .offset .limbs) in
     let k = lengths (a .nodes .now) (a .roots .now) l (a .room .now) in
     let m = frameLimits (a .s) in
-    prover-asked (a .c) (a .s) (a .nodes .now) (a .roots .now) l (a .base .now) (a .ext .now) (a .room .now)
-    (prover-ok (a .c) (a .s) k (length (a .base .now)) (length (a .ext .now)) m (a .nodes .now) (a .roots .now)
-    (done-rows (proverRows (a .c) (a .s) k (length (a .base .now)) (length (a .ext .now)) m (a .nodes .now) (a .roots .now)) refl (c .before .before .before .enum-told .given .1) (c .before .before .before .before .before .prover-refusal .ensures)))
-
-returns : tie.Need-returns
-returns c =
-    let a = c .before .before .before .before .before .before .before .before .before .before .before .before .before .before .before .args in
-    let l = lent (a .bases .now) (a .exts .now) (a .main .now) (a .aux .now) (a .challenges .now) (a .alphas .now) (a .offset .limbs) in
-    answer-refused (proverRows (a .c) (a .s) (lengths (a .nodes .now) (a .roots .now) l (a .room .now)) (length (a .base .now)) (length (a .ext .now)) (frameLimits (a .s)) (a .nodes .now) (a .roots .now)) (c .before .before .before .prover-refusal .ensures) (c .before .why .given .1)
+    let asked = prover-asked (a .c) (a .s) (a .nodes .now) (a .roots .now) l (a .base .now) (a .ext .now) (a .room .now) (prover-ok (a .c) (a .s) k (length (a .base .now)) (length (a .ext .now)) m (a .nodes .now) (a .roots .now) (t .quiet e)) in
+    rw (t .holds e .long) (asked .1)
 
 same-length : tie.Need-same-length
 same-length c = search needs
@@ -44,22 +32,44 @@ same-length-2 c = search needs
 same-length-3 : tie.Need-same-length-3
 same-length-3 c = search needs
 
-returns-2 : tie.Need-returns-2
-returns-2 c =
+returns : tie.Need-returns
+returns c =
     let a = c .before .before .before .before .before .before .before .before .before .before .before .before .before .before .before .before .before .before .before .before .before .before .before .before .args in
+    let t = c .before .before .before .before .before .before .before .before .before .before .before .attempt .ensures in
+    let e = c .before .before .before .before .before .before .before .before .if1 .taken in
     let l = lent (a .bases .now) (a .exts .now) (a .main .now) (a .aux .now) (a .challenges .now) (a .alphas .now) (a .offset .limbs) in
-    answer-done (proverRows (a .c) (a .s) (lengths (a .nodes .now) (a .roots .now) l (a .room .now)) (length (a .base .now)) (length (a .ext .now)) (frameLimits (a .s)) (a .nodes .now) (a .roots .now)) (c .before .before .before .before .before .before .before .before .before .before .before .before .prover-refusal .ensures) refl (c .before .before .before .before .before .before .before .before .before .before .enum-told .given .1) (c .before .before .before .before .before .before .evaluate .ensures)
+    let k = lengths (a .nodes .now) (a .roots .now) l (a .room .now) in
+    let m = frameLimits (a .s) in
+    let asked = prover-asked (a .c) (a .s) (a .nodes .now) (a .roots .now) l (a .base .now) (a .ext .now) (a .room .now) (prover-ok (a .c) (a .s) k (length (a .base .now)) (length (a .ext .now)) m (a .nodes .now) (a .roots .now) (t .quiet e)) in
+    answer-quiet (proverRows (a .c) (a .s) k (length (a .base .now)) (length (a .ext .now)) m (a .nodes .now) (a .roots .now)) (t .quiet e) (completes (t .holds e) (c .before .before .before .before .write-roots .ensures) (asked .2))
+
+eval-in-steps-requires : tie.Need-eval-in-steps-requires
+eval-in-steps-requires c κs = search needs
+
+same-length-4 : tie.Need-same-length-4
+same-length-4 c = search needs
+
+same-length-5 : tie.Need-same-length-5
+same-length-5 c = search needs
+
+same-length-6 : tie.Need-same-length-6
+same-length-6 c = search needs
+
+returns-2 : tie.Need-returns-2
+returns-2 c = rw (c .before .before .before .before .before .before .before .before .before .before .before .before .before .attempt .ensures .kept (c .before .before .before .before .before .before .before .before .before .before .if1 .left)) at (c .before .before .before .before .before .before .eval-in-steps .ensures)
 
 pub eval-program-spec : {M : Type 1} → statement M
 eval-program-spec =
     tie.close
     (tie.spec
-    prover-refusal-requires
-    enum-known-why
-    enum-told
-    evaluate-requires
-    returns
+    attempt-requires
+    write-roots-requires
     same-length
     same-length-2
     same-length-3
+    returns
+    eval-in-steps-requires
+    same-length-4
+    same-length-5
+    same-length-6
     returns-2)

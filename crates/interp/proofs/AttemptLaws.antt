@@ -1,0 +1,79 @@
+-- The plain evaluator's attempt: from what it looked at, that no row refuses; and its answer.
+-- Assumes nothing.
+use mathlib.Core.Bool.{Bool, true, false, cond, not, _&&_, _||_}
+use mathlib.Core.List.{List, [], _∷_, _++_}
+use mathlib.Core.Option.{Option, none}
+use mathlib.Core.Path.{_≡_, refl, sym, ap, _∙_}
+use Prim.Native.Nat.{ℕ, _*_, _<_, _≤_}
+use native.Mathlib.Nat.{le-refl}
+use lib.Dec.{leb}
+use lib.ListN.{length, getD}
+use borrow.Author.Tests.{leb-false}
+use Rattle.laws.specs.Folds.{lowest, orElse}
+use Rattle.laws.proofs.Folds.{lowest-none, none-lowest}
+use Rattle.laws.proofs.Tests.{clash, neither}
+use Rattle.ir.specs.declared.program.Counts.{Counts}
+use Rattle.ir.specs.declared.frame.Shape.{Shape}
+use Rattle.ir.specs.Words.{nodeAt}
+use Rattle.ir.specs.Program.{nodeOk, illFormed}
+use Rattle.ir.specs.Refusals.{Row, row, rowAt, found, anyHolds}
+use Rattle.ir.proofs.ProgramLaws.{within}
+use Rattle.interp.specs.declared.frame.Limits.{Limits}
+use Rattle.interp.specs.declared.frame.Lengths.{Lengths}
+use Rattle.interp.specs.Values.{Value, values}
+use Rattle.interp.specs.Frame.{Lent, leaves, nodeOutside, proverStrides, frameLimits}
+use Rattle.interp.specs.Room.{RoomHolds}
+use Rattle.interp.specs.Evaluation.{memoryRows, formRows, shortEvals, extRoot, proverRest, proverRows, lengths}
+use Rattle.interp.specs.Trial.{Narrow, Tryable, NodeFits, Trial, Sufficient, Attempt}
+use Rattle.field.specs.Tower.{goldilocks}
+use Rattle.interp.proofs.AnswerLaws.{any-append}
+use Rattle.interp.proofs.ReadyLaws.{prover-fits}
+use Rattle.interp.proofs.RefuseLaws.{memory-ok}
+
+-- every node passed, and every root was found below the count: 7 and 13 do not hold
+module _ (c : Counts) (m : Limits) (nodes roots : List ℕ) (h : (j : ℕ) → j < c .nodes → NodeFits c m nodes j (nodeAt nodes j)) where
+  none-ill : lowest (λ r. leb (c .nodes) (getD roots r 0)) (c .roots) ≡ none → illFormed c nodes roots ≡ none
+  unfolding illFormed nodeOk
+  none-ill e = rw (none-lowest (λ i. not (nodeOk c nodes i)) (c .nodes) (λ i l. rw (h i l .formed)), e)
+
+  none-outside : lowest (nodeOutside m nodes) (c .nodes) ≡ none
+  none-outside = none-lowest (nodeOutside m nodes) (c .nodes) (λ i l. h i l .inside)
+
+-- the converse of `prover-ok`
+quiet-rows : (c : Counts) (s : Shape) (l : Lengths) (base ext : ℕ) (m : Limits) (nodes roots : List ℕ) → Sufficient c s l base ext nodes roots → ((j : ℕ) → j < c .nodes → NodeFits c m nodes j (nodeAt nodes j)) → anyHolds (proverRows c s l base ext m nodes roots) ≡ false
+quiet-rows c s l base ext m nodes roots k h =
+    let f = k .roots-fit in
+    any-append (memoryRows c s 1 l) (proverRest c base ext m nodes roots)
+    ∙ neither (k .memory) (rw (f .evals-long, none-ill c m nodes roots h (f .roots-below), none-outside c m nodes roots h, f .roots-base))
+
+-- what the trial asks
+pub prover-tryable : (c : Counts) (s : Shape) (nodes roots room : List ℕ) (l : Lent) (base ext : ℕ) → Sufficient c s (lengths nodes roots l room) base ext nodes roots → Tryable (proverStrides s) (frameLimits s) c l (length nodes) (length room)
+prover-tryable c s nodes roots room l base ext k =
+    let m = memory-ok c s 1 (lengths nodes roots l room) (k .memory) in
+    let t = m .tables-long in
+    let f = m .frame-long in
+    let w = within s (m .shape-within) in
+    record {
+      fits = prover-fits s c l (t .bases-long) (t .exts-long) (f .aux-long) (f .challenges-long) (f .alphas-long) (f .main-long);
+      narrow = record { main = w .main; aux = w .aux; challenges = w .challenges; alphas = w .alphas; offsets = le-refl 1 };
+      nodes-long = t .nodes-long;
+      room-long = m .room-long;
+    }
+
+module _ (c : Counts) (s : Shape) (nodes roots : List ℕ) (l : Lent) (base ext : ℕ) where
+  abbrev rows : List ℕ → List Row
+  rows room = proverRows c s (lengths nodes roots l room) base ext (frameLimits s) nodes roots
+
+  abbrev env : ℕ → Value ℕ (List ℕ)
+  env = values goldilocks (leaves (proverStrides s) l) nodes (c .nodes)
+
+  pub attempt-made : (room room′ : List ℕ) (r : Bool) → Sufficient c s (lengths nodes roots l room) base ext nodes roots → Trial (proverStrides s) (frameLimits s) c l nodes room room′ r → Attempt (rows room) env (c .nodes) room room′ r
+  attempt-made room room′ r k t =
+      record {
+        quiet = λ e. quiet-rows c s (lengths nodes roots l room) base ext (frameLimits s) nodes roots k (t .done e .node-fits);
+        holds = λ e. t .done e .holds;
+        kept = t .kept;
+      }
+
+  pub attempt-kept : (room : List ℕ) → Attempt (rows room) env (c .nodes) room room false
+  attempt-kept room = record { quiet = λ e. clash e refl; holds = λ e. clash e refl; kept = λ e. refl }
