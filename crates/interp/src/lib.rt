@@ -1,5 +1,6 @@
 // The evaluators, after interp.rs.
 pub mod evals;
+pub mod fits;
 pub mod frame;
 pub mod interp;
 pub mod refuse;

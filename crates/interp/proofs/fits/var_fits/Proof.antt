@@ -5,8 +5,8 @@ use Rattle.laws.proofs.Tests.{clash}
 use borrow.Author.Tests.{ltb-true}
 use mathlib.Core.Path.{refl}
 use borrow.Author.Needs.{needs}
-use Rattle.interp.proofs.trial.var_fits.Statement.{statement}
-use Rattle.interp.proofs.trial.var_fits.Tie as tie
+use Rattle.interp.proofs.fits.var_fits.Statement.{statement}
+use Rattle.interp.proofs.fits.var_fits.Tie as tie
 
 cast-step : tie.Need-cast-step
 cast-step c = search needs

@@ -3,8 +3,8 @@
 use Rattle.interp.proofs.TrialLaws.{leaf-passed, operation-passed}
 use mathlib.Core.Path.{sym, _∙_}
 use borrow.Author.Needs.{needs}
-use Rattle.interp.proofs.trial.node_fits.Statement.{statement}
-use Rattle.interp.proofs.trial.node_fits.Tie as tie
+use Rattle.interp.proofs.fits.node_fits.Statement.{statement}
+use Rattle.interp.proofs.fits.node_fits.Tie as tie
 
 leaf-fits-requires : tie.Need-leaf-fits-requires
 leaf-fits-requires c κs = search needs

@@ -6,8 +6,8 @@ use Rattle.laws.proofs.Tests.{clash}
 use borrow.Author.Tests.{ltb-true}
 use mathlib.Core.Path.{refl}
 use borrow.Author.Needs.{needs}
-use Rattle.interp.proofs.trial.leaf_fits.Statement.{statement}
-use Rattle.interp.proofs.trial.leaf_fits.Tie as tie
+use Rattle.interp.proofs.fits.leaf_fits.Statement.{statement}
+use Rattle.interp.proofs.fits.leaf_fits.Tie as tie
 
 var-fits-requires : tie.Need-var-fits-requires
 var-fits-requires c κs = search needs

@@ -1,29 +1,30 @@
--- `try_nodes` meets its contract: the nodes below i passed, and have their values in the room.
+-- `pass` meets its contract: the nodes below i have their values in the room, and passed where they were to be tested.
 -- Assumes nothing.
 use Rattle.interp.proofs.RunLaws.{Passed, passed-more, passed-all}
-use Rattle.interp.proofs.TrialLaws.{passed-ready}
+use Rattle.interp.proofs.TrialLaws.{admitted-ready}
 use Rattle.interp.specs.Frame.{lent}
 use Rattle.interp.specs.Trial.{NodeFits}
 use Rattle.ir.specs.Words.{nodeAt}
 use Rattle.laws.proofs.Blocks.{blocks-none}
 use Rattle.laws.proofs.Tests.{clash}
 use borrow.Author.Count.{below-none, below-more}
-use borrow.Author.Tests.{not-false}
+use borrow.Author.Tests.{not-true, not-false}
 use native.Mathlib.Omega.{arith}
 use Prim.Native.Nat.{ℕ, _<_, _≤_, _-_}
+use mathlib.Core.Bool.{false}
 use mathlib.Core.Path.{_≡_, refl}
 use borrow.Author.Needs.{needs}
-use Rattle.interp.proofs.trial.try_nodes.Statement.{statement}
-use Rattle.interp.proofs.trial.try_nodes.Tie as tie
+use Rattle.interp.proofs.run.pass.Statement.{statement}
+use Rattle.interp.proofs.run.pass.Tie as tie
 
 abbrev Inv-loop : tie.InvT-loop
-Inv-loop c m s offset nodes bases exts main aux challenges alphas room₀ n i₀ room i = (i ≤ n) × Passed s (lent bases exts main aux challenges alphas (offset .limbs)) nodes room₀ room i × ((j : ℕ) → j < i → NodeFits c m nodes j (nodeAt nodes j))
+Inv-loop tested c m s offset nodes bases exts main aux challenges alphas room₀ n i₀ room i = (i ≤ n) × Passed s (lent bases exts main aux challenges alphas (offset .limbs)) nodes room₀ room i × (tested ≡ false → (j : ℕ) → j < i → NodeFits c m nodes j (nodeAt nodes j))
 
 abbrev μ-loop : tie.MeasureT-loop
-μ-loop c m s offset nodes bases exts main aux challenges alphas room₀ n i₀ room i = n - i
+μ-loop tested c m s offset nodes bases exts main aux challenges alphas room₀ n i₀ room i = n - i
 
 loop-holds : tie.Need-loop-holds Inv-loop μ-loop
-loop-holds c = (omega arith, blocks-none _ _ _, below-none _)
+loop-holds c = (omega arith, blocks-none _ _ _, λ t. below-none _)
 
 mul-at : tie.Need-mul-at Inv-loop μ-loop
 mul-at c = omega (arith, c .before .before .before .before .before .before .before .before .before .before .pre .nodes-long)
@@ -52,30 +53,31 @@ mul-y c = omega (arith, c .before .before .before .before .before .before .befor
 shared-slice-read-y : tie.Need-shared-slice-read-y Inv-loop μ-loop
 shared-slice-read-y c = omega (arith, c .before .before .before .before .before .before .before .before .before .before .before .before .before .pre .nodes-long)
 
-add-node-fits : tie.Need-add-node-fits Inv-loop μ-loop
-add-node-fits c = omega (arith, c .before .before .before .before .before .before .before .before .before .before .before .before .before .pre .nodes-long)
+add-admitted : tie.Need-add-admitted Inv-loop μ-loop
+add-admitted c = omega (arith, c .before .before .before .before .before .before .before .before .before .before .before .before .before .pre .nodes-long)
 
-mul-node-fits : tie.Need-mul-node-fits Inv-loop μ-loop
-mul-node-fits c = omega (arith, c .before .before .before .before .before .before .before .before .before .before .before .before .before .pre .nodes-long)
+mul-admitted : tie.Need-mul-admitted Inv-loop μ-loop
+mul-admitted c = omega (arith, c .before .before .before .before .before .before .before .before .before .before .before .before .before .pre .nodes-long)
 
-shared-slice-read-node-fits : tie.Need-shared-slice-read-node-fits Inv-loop μ-loop
-shared-slice-read-node-fits c = omega (arith, c .before .before .before .before .before .before .before .before .before .before .before .before .before .before .pre .nodes-long)
+shared-slice-read-admitted : tie.Need-shared-slice-read-admitted Inv-loop μ-loop
+shared-slice-read-admitted c = omega (arith, c .before .before .before .before .before .before .before .before .before .before .before .before .before .before .pre .nodes-long)
 
-node-fits-requires : tie.Need-node-fits-requires Inv-loop μ-loop
-node-fits-requires c κs = let r = c .before .before .before .before .before .before .before .before .before .before .before .before .before .before .pre in (r .narrow, omega (arith, r .nodes-long))
+admitted-requires : tie.Need-admitted-requires Inv-loop μ-loop
+admitted-requires c κs = let r = c .before .before .before .before .before .before .before .before .before .before .before .before .before .before .pre in (λ t. r .trial t .narrow, omega (arith, r .nodes-long))
 
 same-length : tie.Need-same-length Inv-loop μ-loop
 same-length c = c .before .before .before .before .before .before .before .loop .inv .1 .long
 
 returns : tie.Need-returns Inv-loop μ-loop
-returns c = λ e. clash e refl
+returns c = record { node-fits = λ t e. clash e refl; holds = λ e. clash e refl; sure = λ t. clash (c .before .admitted .ensures .sure t) (not-true _ (c .if1 .taken)) }
 
 node-value-requires : tie.Need-node-value-requires Inv-loop μ-loop
 node-value-requires c κs =
     let l = c .before .before .before .before .before .before .before .before .loop in
     let q = c .before .before .before .before .before .before .before .before .before .before .before .before .before .before .before .before .before in
     let a = q .args in
-    (omega (arith, q .pre .room-long, l .inv .1 .long, c .before .before .before .before .before .before .before .loop-test .taken), passed-ready (a .s) (a .m) (a .c) (lent (a .bases .now) (a .exts .now) (a .main .now) (a .aux .now) (a .challenges .now) (a .alphas .now) (a .offset .limbs)) (q .pre .fits) (a .nodes .now) (l .i) (c .before .before .node-fits .ensures (not-false _ (c .before .if1 .left))))
+    let h = c .before .before .before .before .before .before .before .loop-test .taken in
+    (omega (arith, q .pre .room-long, l .inv .1 .long, h), admitted-ready (a .tested) (a .s) (a .m) (a .c) (lent (a .bases .now) (a .exts .now) (a .main .now) (a .aux .now) (a .challenges .now) (a .alphas .now) (a .offset .limbs)) (a .nodes .now) (q .pre) (l .i) h (c .before .before .admitted .ensures) (not-false _ (c .before .if1 .left)))
 
 store-value-requires : tie.Need-store-value-requires Inv-loop μ-loop
 store-value-requires c κs = let l = c .before .before .before .before .before .before .before .before .before .before .loop in omega (arith, c .before .before .before .before .before .before .before .before .before .before .before .before .before .before .before .before .before .before .before .pre .room-long, l .inv .1 .long, c .before .before .before .before .before .before .before .before .before .loop-test .taken)
@@ -92,11 +94,12 @@ loop-again c =
     let q = c .before .before .before .before .before .before .before .before .before .before .before .before .before .before .before .before .before .before .before .before .before .before in
     let a = q .args in
     let v = (lent (a .bases .now) (a .exts .now) (a .main .now) (a .aux .now) (a .challenges .now) (a .alphas .now) (a .offset .limbs)) in
-    let t = c .before .before .before .before .before .before .before .before .before .before .before .before .loop-test .taken in
-    let f = c .before .before .before .before .before .before .before .node-fits .ensures (not-false _ (c .before .before .before .before .before .before .if1 .left)) in (
+    let h = c .before .before .before .before .before .before .before .before .before .before .before .before .loop-test .taken in
+    let e = not-false _ (c .before .before .before .before .before .before .if1 .left) in
+    let f = c .before .before .before .before .before .before .before .admitted .ensures in (
       omega arith,
-      passed-more (a .s) v (a .nodes .now) (a .room .now) (l .room) _ _ (l .i) _ (omega (arith, q .pre .room-long, l .inv .1 .long)) (l .inv .1) (passed-ready (a .s) (a .m) (a .c) v (q .pre .fits) (a .nodes .now) (l .i) f) (c .before .before .before .before .node-value .ensures) (c .before .before .store-value .ensures),
-      below-more _ _ (l .inv .2) f,
+      passed-more (a .s) v (a .nodes .now) (a .room .now) (l .room) _ _ (l .i) _ (omega (arith, q .pre .room-long, l .inv .1 .long)) (l .inv .1) (admitted-ready (a .tested) (a .s) (a .m) (a .c) v (a .nodes .now) (q .pre) (l .i) h f e) (c .before .before .before .before .node-value .ensures) (c .before .before .store-value .ensures),
+      λ t. below-more _ _ (l .inv .2 t) (f .fits t e),
     )
 
 same-length-2 : tie.Need-same-length-2 Inv-loop μ-loop
@@ -107,13 +110,14 @@ returns-2 c =
     let l = c .before .loop in
     let a = c .before .before .before .before .before .before .before .before .before .before .args in
     let e : l .i ≡ a .c .nodes = omega arith in
-    λ t. record {
-      node-fits = rw e at (l .inv .2);
-      holds = passed-all (a .s) (lent (a .bases .now) (a .exts .now) (a .main .now) (a .aux .now) (a .challenges .now) (a .alphas .now) (a .offset .limbs)) (a .nodes .now) (a .room .now) (l .room) (a .c .nodes) (rw e at (l .inv .1));
+    record {
+      node-fits = λ t r. rw e at (l .inv .2 t);
+      holds = λ r. passed-all (a .s) (lent (a .bases .now) (a .exts .now) (a .main .now) (a .aux .now) (a .challenges .now) (a .alphas .now) (a .offset .limbs)) (a .nodes .now) (a .room .now) (l .room) (a .c .nodes) (rw e at (l .inv .1));
+      sure = λ t. refl;
     }
 
-pub try-nodes-spec : {M : Type 1} → statement M
-try-nodes-spec =
+pub pass-spec : {M : Type 1} → statement M
+pass-spec =
     tie.close
     (tie.spec
     Inv-loop
@@ -128,10 +132,10 @@ try-nodes-spec =
     add-y
     mul-y
     shared-slice-read-y
-    add-node-fits
-    mul-node-fits
-    shared-slice-read-node-fits
-    node-fits-requires
+    add-admitted
+    mul-admitted
+    shared-slice-read-admitted
+    admitted-requires
     same-length
     returns
     node-value-requires
