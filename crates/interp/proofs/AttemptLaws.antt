@@ -15,7 +15,8 @@ use Rattle.laws.proofs.Tests.{clash, neither}
 use Rattle.ir.specs.declared.program.Counts.{Counts}
 use Rattle.ir.specs.declared.frame.Shape.{Shape}
 use Rattle.ir.specs.Words.{nodeAt}
-use Rattle.ir.specs.Program.{nodeOk, illFormed}
+use Rattle.ir.specs.declared.refusal.Outcome.the-variants.{Done}
+use Rattle.ir.specs.Program.{numBase, nodeOk, illFormed}
 use Rattle.ir.specs.Refusals.{Row, row, rowAt, found, anyHolds}
 use Rattle.ir.proofs.ProgramLaws.{within}
 use Rattle.interp.specs.declared.frame.Limits.{Limits}
@@ -23,10 +24,12 @@ use Rattle.interp.specs.declared.frame.Lengths.{Lengths}
 use Rattle.interp.specs.Values.{Value, values}
 use Rattle.interp.specs.Frame.{Lent, leaves, nodeOutside, proverStrides, frameLimits}
 use Rattle.interp.specs.Room.{RoomHolds}
-use Rattle.interp.specs.Evaluation.{memoryRows, formRows, shortEvals, extRoot, proverRest, proverRows, lengths}
+use Rattle.interp.specs.Evaluation.{memoryRows, formRows, shortEvals, extRoot, proverRest, proverRows, lengths, ProverAnswer}
+use Rattle.interp.specs.Writes.{RootsIn, WritesRoots}
 use Rattle.interp.specs.Trial.{Narrow, Tryable, NodeFits, Trial, Sufficient, Attempt}
 use Rattle.field.specs.Tower.{goldilocks}
-use Rattle.interp.proofs.AnswerLaws.{any-append}
+use Rattle.interp.proofs.AnswerLaws.{answer-quiet, any-append, prover-ok, Asked, prover-asked}
+use Rattle.interp.proofs.EvalLaws.{completes}
 use Rattle.interp.proofs.ReadyLaws.{prover-fits}
 use Rattle.interp.proofs.RefuseLaws.{memory-ok}
 
@@ -77,3 +80,18 @@ module _ (c : Counts) (s : Shape) (nodes roots : List ℕ) (l : Lent) (base ext 
 
   pub attempt-kept : (room : List ℕ) → Attempt (rows room) env (c .nodes) room room false
   attempt-kept room = record { quiet = λ e. clash e refl; holds = λ e. clash e refl; kept = λ e. refl }
+
+-- ---- its answer
+
+module _ (c : Counts) (s : Shape) (nodes roots : List ℕ) (l : Lent) (base ext room : List ℕ) where
+  asked : anyHolds (rows c s nodes roots l (length base) (length ext) room) ≡ false → Asked (proverStrides s) c (numBase c) nodes roots l (length base) (length ext) (length room)
+  asked q = prover-asked c s nodes roots l base ext room (prover-ok c s (lengths nodes roots l room) (length base) (length ext) (frameLimits s) nodes roots q)
+
+  abbrev Attempted : List ℕ → Bool → Type 0
+  Attempted room′ r = Attempt (rows c s nodes roots l (length base) (length ext) room) (env c s nodes roots l (length base) (length ext)) (c .nodes) room room′ r
+
+  pub attempt-roots : (room′ : List ℕ) {r : Bool} → Attempted room′ r → r ≡ true → RootsIn (c .roots) (numBase c) roots (length room′) (length base) (length ext)
+  attempt-roots room′ t e = rw (t .holds e .long) (asked (t .quiet e) .1)
+
+  pub attempt-done : (room′ base′ ext′ : List ℕ) {r : Bool} → Attempted room′ r → r ≡ true → WritesRoots (c .roots) (numBase c) roots room′ base base′ ext ext′ → ProverAnswer c s nodes roots l Done base base′ ext ext′ room room′
+  attempt-done room′ base′ ext′ t e w = answer-quiet (rows c s nodes roots l (length base) (length ext) room) (t .quiet e) (completes (t .holds e) w (asked (t .quiet e) .2))

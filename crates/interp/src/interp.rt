@@ -3,7 +3,7 @@
 ghost use mathlib.Core.Bool.{true};
 ghost use mathlib.Core.List.{[]};
 ghost use mathlib.Core.Path.{_≡_};
-ghost use Prim.Native.Nat.{ℕ, _<_};
+ghost use Prim.Native.Nat.{ℕ, _<_, _≤_};
 ghost use lib.ListN.{length, getD};
 ghost use Rattle.field.specs.Tower.{goldilocks};
 ghost use Rattle.ir.specs.Refusals.{saidOfOutcome, first, gives};
@@ -25,7 +25,8 @@ use super::refuse::root_is_ext;
 use super::refuse::roots_fit;
 use super::refuse::short_evals;
 use super::run::run;
-use super::trial::try_program;
+use super::trial::try_large_program;
+use super::trial::try_small;
 use field::extensions_goldilocks::Ext;
 use field::goldilocks::Fp;
 use ir::frame::Shape;
@@ -215,8 +216,63 @@ fn sufficient(
 }
 
 // The whole check and the evaluation with one pass over the nodes. Where it says false, for a program that is refused or
-// too large for it, nothing was written.
-fn attempt(
+// too large for it, nothing was written. This one is for up to 128 nodes.
+fn attempt_small(
+    c: Counts,
+    s: Shape,
+    offset: Ext,
+    base: usize,
+    ext: usize,
+    nodes: &[u32],
+    bases: &[u64],
+    exts: &[u64],
+    roots: &[u32],
+    main: &[u64],
+    aux: &[u64],
+    challenges: &[u64],
+    alphas: &[u64],
+    room: &mut [u64],
+) -> bool
+    requires { ⌜ c .nodes ≤ 128 ⌝ }
+    ensures { λ r. ⌜ Attempt (proverRows c s (lengths (now (nodes .entry)) (now (roots .entry)) (lent (now (bases .entry)) (now (exts .entry)) (now (main .entry)) (now (aux .entry)) (now (challenges .entry)) (now (alphas .entry)) (offset .limbs)) (now (room .entry))) base ext (frameLimits s) (now (nodes .entry)) (now (roots .entry))) (values goldilocks (leaves (proverStrides s) (lent (now (bases .entry)) (now (exts .entry)) (now (main .entry)) (now (aux .entry)) (now (challenges .entry)) (now (alphas .entry)) (offset .limbs))) (now (nodes .entry)) (c .nodes)) (c .nodes) (now (room .entry)) (now (room .exit)) r ⌝ }
+{
+    let l = Lengths {
+        nodes: nodes.len(),
+        bases: bases.len(),
+        exts: exts.len(),
+        roots: roots.len(),
+        main: main.len(),
+        aux: aux.len(),
+        challenges: challenges.len(),
+        alphas: alphas.len(),
+        room: room.len(),
+    };
+    if !sufficient(c, s, l, base, ext, nodes, roots) {
+        return false;
+    }
+    let t = Strides {
+        wide: false,
+        main: s.main,
+        aux: s.aux,
+    };
+    try_small(
+        c,
+        frame_limits(s),
+        t,
+        offset,
+        nodes,
+        bases,
+        exts,
+        main,
+        aux,
+        challenges,
+        alphas,
+        &mut room[..],
+    )
+}
+
+// The same for a program of more nodes.
+fn attempt_large(
     c: Counts,
     s: Shape,
     offset: Ext,
@@ -253,7 +309,7 @@ fn attempt(
         main: s.main,
         aux: s.aux,
     };
-    try_program(
+    try_large_program(
         c,
         frame_limits(s),
         t,
@@ -269,8 +325,9 @@ fn attempt(
     )
 }
 
-// The plain evaluator: base constraints into base_evals, the others into ext_evals.
-pub fn eval_program(
+// A program of more than 128 nodes, or one that is refused. It has two callers, which keeps it apart in the compiled code: the
+// stack of its largest room costs time in every call, and a small program does not pay for it.
+fn eval_large(
     c: Counts,
     s: Shape,
     offset: Ext,
@@ -288,7 +345,7 @@ pub fn eval_program(
 ) -> Outcome
     ensures { λ r. ⌜ ProverAnswer c s (now (nodes .entry)) (now (roots .entry)) (lent (now (bases .entry)) (now (exts .entry)) (now (main .entry)) (now (aux .entry)) (now (challenges .entry)) (now (alphas .entry)) (offset .limbs)) r (now (base .entry)) (now (base .exit)) (now (ext .entry)) (now (ext .exit)) (now (room .entry)) (now (room .exit)) ⌝ }
 {
-    if attempt(
+    if attempt_large(
         c,
         s,
         offset,
@@ -315,6 +372,125 @@ pub fn eval_program(
         return Outcome::Done;
     }
     eval_in_steps(
+        c,
+        s,
+        offset,
+        nodes,
+        bases,
+        exts,
+        roots,
+        main,
+        aux,
+        challenges,
+        alphas,
+        &mut base[..],
+        &mut ext[..],
+        &mut room[..],
+    )
+}
+
+// A program of up to 128 nodes.
+fn eval_small(
+    c: Counts,
+    s: Shape,
+    offset: Ext,
+    nodes: &[u32],
+    bases: &[u64],
+    exts: &[u64],
+    roots: &[u32],
+    main: &[u64],
+    aux: &[u64],
+    challenges: &[u64],
+    alphas: &[u64],
+    base: &mut [u64],
+    ext: &mut [u64],
+    room: &mut [u64],
+) -> Outcome
+    requires { ⌜ c .nodes ≤ 128 ⌝ }
+    ensures { λ r. ⌜ ProverAnswer c s (now (nodes .entry)) (now (roots .entry)) (lent (now (bases .entry)) (now (exts .entry)) (now (main .entry)) (now (aux .entry)) (now (challenges .entry)) (now (alphas .entry)) (offset .limbs)) r (now (base .entry)) (now (base .exit)) (now (ext .entry)) (now (ext .exit)) (now (room .entry)) (now (room .exit)) ⌝ }
+{
+    if attempt_small(
+        c,
+        s,
+        offset,
+        base.len(),
+        ext.len(),
+        nodes,
+        bases,
+        exts,
+        roots,
+        main,
+        aux,
+        challenges,
+        alphas,
+        &mut room[..],
+    ) {
+        write_roots(
+            c.roots,
+            c.num_base,
+            roots,
+            &room[..],
+            &mut base[..],
+            &mut ext[..],
+        );
+        return Outcome::Done;
+    }
+    eval_large(
+        c,
+        s,
+        offset,
+        nodes,
+        bases,
+        exts,
+        roots,
+        main,
+        aux,
+        challenges,
+        alphas,
+        &mut base[..],
+        &mut ext[..],
+        &mut room[..],
+    )
+}
+
+// The plain evaluator: base constraints into base_evals, the others into ext_evals.
+pub fn eval_program(
+    c: Counts,
+    s: Shape,
+    offset: Ext,
+    nodes: &[u32],
+    bases: &[u64],
+    exts: &[u64],
+    roots: &[u32],
+    main: &[u64],
+    aux: &[u64],
+    challenges: &[u64],
+    alphas: &[u64],
+    base: &mut [u64],
+    ext: &mut [u64],
+    room: &mut [u64],
+) -> Outcome
+    ensures { λ r. ⌜ ProverAnswer c s (now (nodes .entry)) (now (roots .entry)) (lent (now (bases .entry)) (now (exts .entry)) (now (main .entry)) (now (aux .entry)) (now (challenges .entry)) (now (alphas .entry)) (offset .limbs)) r (now (base .entry)) (now (base .exit)) (now (ext .entry)) (now (ext .exit)) (now (room .entry)) (now (room .exit)) ⌝ }
+{
+    if c.nodes <= 128 {
+        return eval_small(
+            c,
+            s,
+            offset,
+            nodes,
+            bases,
+            exts,
+            roots,
+            main,
+            aux,
+            challenges,
+            alphas,
+            &mut base[..],
+            &mut ext[..],
+            &mut room[..],
+        );
+    }
+    eval_large(
         c,
         s,
         offset,

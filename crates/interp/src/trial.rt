@@ -63,7 +63,8 @@ fn try_in(
     true
 }
 
-fn try_small(
+// Up to 128 nodes.
+pub fn try_small(
     c: Counts,
     m: Limits,
     s: Strides,
@@ -98,6 +99,7 @@ fn try_small(
     )
 }
 
+// Up to 1,024.
 fn try_middle(
     c: Counts,
     m: Limits,
@@ -133,6 +135,7 @@ fn try_middle(
     )
 }
 
+// Up to 8,192.
 fn try_large(
     c: Counts,
     m: Limits,
@@ -168,9 +171,9 @@ fn try_large(
     )
 }
 
-// By size: a room of its own is cleared first, which takes time in proportion to it. A program that is larger than the
-// largest is not tried.
-pub fn try_program(
+// More than 128 nodes, by size: a room is cleared first, which takes time in proportion to it. A program that is larger than
+// the largest is not tried.
+pub fn try_large_program(
     c: Counts,
     m: Limits,
     s: Strides,
@@ -189,20 +192,7 @@ pub fn try_program(
 {
     let n = c.nodes;
     if n <= 128 {
-        return try_small(
-            c,
-            m,
-            s,
-            offset,
-            nodes,
-            bases,
-            exts,
-            main,
-            aux,
-            challenges,
-            alphas,
-            &mut room[..],
-        );
+        return false;
     }
     if n <= 1024 {
         return try_middle(

@@ -1,11 +1,11 @@
--- `attempt` meets its contract.
+-- `attempt_large` meets its contract.
 -- Assumes nothing.
 use Rattle.interp.proofs.AttemptLaws.{prover-tryable, attempt-made, attempt-kept}
 use Rattle.interp.specs.Frame.{lent}
 use borrow.Author.Tests.{not-false}
 use borrow.Author.Needs.{needs}
-use Rattle.interp.proofs.interp.attempt.Statement.{statement}
-use Rattle.interp.proofs.interp.attempt.Tie as tie
+use Rattle.interp.proofs.interp.attempt_large.Statement.{statement}
+use Rattle.interp.proofs.interp.attempt_large.Tie as tie
 
 sufficient-requires : tie.Need-sufficient-requires
 sufficient-requires c κs = search needs
@@ -18,8 +18,8 @@ returns c =
 frame-limits-requires : tie.Need-frame-limits-requires
 frame-limits-requires c κs = search needs
 
-try-program-requires : tie.Need-try-program-requires
-try-program-requires c κs =
+try-large-program-requires : tie.Need-try-large-program-requires
+try-large-program-requires c κs =
     let a = c .before .before .before .before .before .before .before .before .before .before .before .before .before .args in
     rw (c .before .frame-limits .ensures) (prover-tryable (a .c) (a .s) (a .nodes .now) (a .roots .now) (a .room .now) (lent (a .bases .now) (a .exts .now) (a .main .now) (a .aux .now) (a .challenges .now) (a .alphas .now) (a .offset .limbs)) (a .base) (a .ext) (c .before .before .before .sufficient .ensures (not-false _ (c .before .before .if1 .left))))
 
@@ -29,15 +29,15 @@ same-length c = search needs
 returns-2 : tie.Need-returns-2
 returns-2 c =
     let a = c .before .before .before .before .before .before .before .before .before .before .before .before .before .before .before .before .args in
-    attempt-made (a .c) (a .s) (a .nodes .now) (a .roots .now) (lent (a .bases .now) (a .exts .now) (a .main .now) (a .aux .now) (a .challenges .now) (a .alphas .now) (a .offset .limbs)) (a .base) (a .ext) (a .room .now) _ _ (c .before .before .before .before .before .before .sufficient .ensures (not-false _ (c .before .before .before .before .before .if1 .left))) (rw (c .before .before .before .before .frame-limits .ensures) at (c .before .before .try-program .ensures))
+    attempt-made (a .c) (a .s) (a .nodes .now) (a .roots .now) (lent (a .bases .now) (a .exts .now) (a .main .now) (a .aux .now) (a .challenges .now) (a .alphas .now) (a .offset .limbs)) (a .base) (a .ext) (a .room .now) _ _ (c .before .before .before .before .before .before .sufficient .ensures (not-false _ (c .before .before .before .before .before .if1 .left))) (rw (c .before .before .before .before .frame-limits .ensures) at (c .before .before .try-large-program .ensures))
 
-pub attempt-spec : {M : Type 1} → statement M
-attempt-spec =
+pub attempt-large-spec : {M : Type 1} → statement M
+attempt-large-spec =
     tie.close
     (tie.spec
     sufficient-requires
     returns
     frame-limits-requires
-    try-program-requires
+    try-large-program-requires
     same-length
     returns-2)

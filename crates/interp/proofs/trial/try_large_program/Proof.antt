@@ -1,24 +1,18 @@
--- `try_program` meets its contract.
+-- `try_large_program` meets its contract.
 -- Assumes nothing.
 use Rattle.interp.proofs.TrialLaws.{trial-kept}
 use borrow.Author.Needs.{needs}
-use Rattle.interp.proofs.trial.try_program.Statement.{statement}
-use Rattle.interp.proofs.trial.try_program.Tie as tie
-
-try-small-requires : tie.Need-try-small-requires
-try-small-requires c κs = search needs
-
-same-length : tie.Need-same-length
-same-length c = search needs
+use Rattle.interp.proofs.trial.try_large_program.Statement.{statement}
+use Rattle.interp.proofs.trial.try_large_program.Tie as tie
 
 returns : tie.Need-returns
-returns c = search needs
+returns c = trial-kept _ _ _ _ _ _
 
 try-middle-requires : tie.Need-try-middle-requires
 try-middle-requires c κs = search needs
 
-same-length-2 : tie.Need-same-length-2
-same-length-2 c = search needs
+same-length : tie.Need-same-length
+same-length c = search needs
 
 returns-2 : tie.Need-returns-2
 returns-2 c = search needs
@@ -26,8 +20,8 @@ returns-2 c = search needs
 try-large-requires : tie.Need-try-large-requires
 try-large-requires c κs = search needs
 
-same-length-3 : tie.Need-same-length-3
-same-length-3 c = search needs
+same-length-2 : tie.Need-same-length-2
+same-length-2 c = search needs
 
 returns-3 : tie.Need-returns-3
 returns-3 c = search needs
@@ -35,17 +29,15 @@ returns-3 c = search needs
 returns-4 : tie.Need-returns-4
 returns-4 c = trial-kept _ _ _ _ _ _
 
-pub try-program-spec : {M : Type 1} → statement M
-try-program-spec =
+pub try-large-program-spec : {M : Type 1} → statement M
+try-large-program-spec =
     tie.close
     (tie.spec
-    try-small-requires
-    same-length
     returns
     try-middle-requires
-    same-length-2
+    same-length
     returns-2
     try-large-requires
-    same-length-3
+    same-length-2
     returns-3
     returns-4)
