@@ -1,14 +1,14 @@
 -- The pass over the nodes: values stay once computed, and what is stored stands for them.
 -- Assumes nothing.
 use mathlib.Core.List.{List, [], _∷_}
-use mathlib.Core.Path.{_≡_, refl, sym, _∙_}
+use mathlib.Core.Path.{_≡_, refl, sym, subst, _∙_}
 use Prim.Native.Nat.{ℕ, zero, suc, _+_, _*_, _<_, _≤_}
 use native.Mathlib.Decide.{le-ind}
 use native.Mathlib.Numerals.{add-one}
 use native.Mathlib.Omega.{arith}
 use lib.Dec.{lit<}
 use lib.ListN.{length, getD, drop}
-use lib.Seq.{sets}
+use lib.Seq.{sets, getD-take, getD-drop}
 use Rattle.laws.specs.Lists.{tabulate, block}
 use Rattle.laws.proofs.Blocks.{BlocksReplaced, blocks-more}
 use Rattle.laws.proofs.Maps.{upd-here, upd-other}
@@ -21,7 +21,7 @@ use Rattle.interp.specs.declared.frame.Strides.{Strides}
 use Rattle.interp.specs.Values.{Value, base, ext, classOf, Leaves, nodeValue, values}
 use Rattle.interp.specs.Frame.{Lent, leaves}
 use Rattle.interp.specs.Room.{Stands, ValueIs, Low, Kept, RoomHolds}
-use Rattle.interp.specs.Operations.{StandsIn, Computes, NodeReady}
+use Rattle.interp.specs.Operations.{StandsIn, LowBefore, Computes, NodeReady}
 
 -- ---- a value, once computed, stays
 
@@ -72,6 +72,9 @@ module _ (s : Strides) (l : Lent) (nodes old : List ℕ) where
   -- an operand that was passed
   operand : (room : List ℕ) (i x : ℕ) → Passed room i → x < i → StandsIn room (values goldilocks (leaves s l) nodes i x) x
   operand room i x w h = rw (value-stays goldilocks (leaves s l) nodes x i h) (w .done x h .stands)
+
+  pub passed-low : (room : List ℕ) (i : ℕ) → Passed room i → LowBefore room i
+  passed-low room i w = record { first-low = λ j h. subst (λ (n : ℕ). n < p) (getD-take 4 (drop (4 * j) room) 1 0 (lit< tt) ∙ getD-drop (4 * j) room 1 0) (w .done j h .low .word-low 1) }
 
   pub passed-more :
       (mid new limbs : List ℕ) (i class : ℕ) → 4 * i + 4 ≤ length mid → Passed mid i

@@ -7,7 +7,7 @@ use Prim.Native.Nat.{ℕ, _+_, _*_, _<_, _≤_}
 use lib.Dec.{eqb}
 use lib.ListN.{length, getD, drop}
 use Rattle.laws.specs.Lists.{block}
-use Rattle.field.specs.Base.{minus}
+use Rattle.field.specs.Base.{p, minus}
 use Rattle.field.specs.Ext.{sums, minuses, product}
 use Rattle.field.specs.Tower.{goldilocks}
 use Rattle.ir.specs.Words.{nodeAt, add, sub, neg, embed}
@@ -35,6 +35,10 @@ pub record Operates (room : List ℕ) (tag x y class : ℕ) (limbs : List ℕ) :
       → ValueIs (operationValue goldilocks env tag x y) class limbs
 
 -- ---- what the evaluation of a node asks, and gives
+
+-- the first limb of every node before i
+pub record LowBefore (room : List ℕ) (i : ℕ) : Type 0 where
+  pub first-low : (j : ℕ) → j < i → getD room (4 * j + 1) 0 < p
 
 -- what it asks
 pub record NodeReady (s : Strides) (l : Lent) (i tag x y : ℕ) : Type 0 where

@@ -10,7 +10,7 @@ ghost use Rattle.field.specs.Tower.{goldilocks};
 ghost use Rattle.interp.specs.Values.{values};
 ghost use Rattle.interp.specs.Frame.{lent, leaves};
 ghost use Rattle.interp.specs.Room.{RoomHolds};
-ghost use Rattle.interp.specs.Operations.{NodeReady, Computes, Ready};
+ghost use Rattle.interp.specs.Operations.{LowBefore, NodeReady, Computes, Ready};
 ghost use Rattle.interp.specs.Trial.{Passable, Passes};
 use super::fits::admitted;
 use super::frame::Limits;
@@ -37,7 +37,7 @@ fn node_value(
     alphas: &[u64],
     room: &[u64],
 ) -> Value
-    requires { ⌜ (4 * i ≤ length (now room)) × NodeReady s (lent (now bases) (now exts) (now main) (now aux) (now challenges) (now alphas) (offset .limbs)) i tag x y ⌝ }
+    requires { ⌜ (4 * i ≤ length (now room)) × NodeReady s (lent (now bases) (now exts) (now main) (now aux) (now challenges) (now alphas) (offset .limbs)) i tag x y × LowBefore (now room) i ⌝ }
     ensures { λ r. ⌜ Computes s (lent (now (bases .entry)) (now (exts .entry)) (now (main .entry)) (now (aux .entry)) (now (challenges .entry)) (now (alphas .entry)) (offset .limbs)) (now (room .entry)) tag x y (r .class) (r .limbs .limbs) ⌝ }
 {
     if tag < OP_ADD {

@@ -117,12 +117,14 @@ pub fn leaf(
     }
 }
 
+// Operands that stand in the room are below P.
 fn base_operation(tag: u32, a: u64, b: u64) -> u64
+    requires { ⌜ (a < p) × (b < p) ⌝ }
     ensures { λ r. ⌜ Is (baseOp tag a b) r ⌝ }
 {
     match tag {
-        OP_ADD => Fp::add(a, b),
-        OP_SUB => Fp::sub(a, b),
+        OP_ADD => Fp::add_reduced(a, b),
+        OP_SUB => Fp::sub_reduced(a, b),
         _ => Fp::mul(a, b),
     }
 }
@@ -139,7 +141,7 @@ fn ext_operation(tag: u32, a: Ext, b: Ext) -> Ext
 
 // Add, Sub or Mul: base where both operands are.
 fn binary(tag: u32, x: usize, y: usize, room: &[u64]) -> Value
-    requires { ⌜ (6 ≤ tag) × (tag < 9) × (4 * x + 4 ≤ length (now room)) × (4 * y + 4 ≤ length (now room)) ⌝ }
+    requires { ⌜ (6 ≤ tag) × (tag < 9) × (4 * x + 4 ≤ length (now room)) × (4 * y + 4 ≤ length (now room)) × (getD (now room) (4 * x + 1) 0 < p) × (getD (now room) (4 * y + 1) 0 < p) ⌝ }
     ensures { λ r. ⌜ Operates (now (room .entry)) tag x y (r .class) (r .limbs .limbs) ⌝ }
 {
     let at = 4 * x;
@@ -186,7 +188,7 @@ fn unary(tag: u32, x: usize, y: usize, room: &[u64]) -> Value
 }
 
 pub fn operation(tag: u32, x: usize, y: usize, room: &[u64]) -> Value
-    requires { ⌜ (6 ≤ tag) × (tag ≤ 10) × (4 * x + 4 ≤ length (now room)) × (tag < 9 → 4 * y + 4 ≤ length (now room)) ⌝ }
+    requires { ⌜ (6 ≤ tag) × (tag ≤ 10) × (4 * x + 4 ≤ length (now room)) × (tag < 9 → 4 * y + 4 ≤ length (now room)) × (getD (now room) (4 * x + 1) 0 < p) × (tag < 9 → getD (now room) (4 * y + 1) 0 < p) ⌝ }
     ensures { λ r. ⌜ Operates (now (room .entry)) tag x y (r .class) (r .limbs .limbs) ⌝ }
 {
     if tag < OP_NEG {

@@ -13,7 +13,7 @@ operation-requires c κs =
     let q = c .before .before .before .before .before .before .before .before .pre in
     let t = c .if1 .left in
     let x = q .1 .first-operand t in
-    (t, q .1 .known, omega (arith, q .0, x), λ h. let y = q .1 .second-operand t h in omega (arith, q .0, y))
+    (t, q .1 .known, omega (arith, q .0, x), λ h. let y = q .1 .second-operand t h in omega (arith, q .0, y), q .2 .first-low _ x, λ h. q .2 .first-low _ (q .1 .second-operand t h))
 
 returns : tie.Need-returns
 returns c = leaf-computes (c .before .if1 .taken) (c .leaf .ensures)

@@ -1,6 +1,6 @@
 -- `pass` meets its contract: the nodes below i have their values in the room, and passed where they were to be tested.
 -- Assumes nothing.
-use Rattle.interp.proofs.RunLaws.{Passed, passed-more, passed-all}
+use Rattle.interp.proofs.RunLaws.{Passed, passed-low, passed-more, passed-all}
 use Rattle.interp.proofs.TrialLaws.{admitted-ready}
 use Rattle.interp.specs.Frame.{lent}
 use Rattle.interp.specs.Trial.{NodeFits}
@@ -77,7 +77,7 @@ node-value-requires c κs =
     let q = c .before .before .before .before .before .before .before .before .before .before .before .before .before .before .before .before .before in
     let a = q .args in
     let h = c .before .before .before .before .before .before .before .loop-test .taken in
-    (omega (arith, q .pre .room-long, l .inv .1 .long, h), admitted-ready (a .tested) (a .s) (a .m) (a .c) (lent (a .bases .now) (a .exts .now) (a .main .now) (a .aux .now) (a .challenges .now) (a .alphas .now) (a .offset .limbs)) (a .nodes .now) (q .pre) (l .i) h (c .before .before .admitted .ensures) (not-false _ (c .before .if1 .left)))
+    (omega (arith, q .pre .room-long, l .inv .1 .long, h), admitted-ready (a .tested) (a .s) (a .m) (a .c) (lent (a .bases .now) (a .exts .now) (a .main .now) (a .aux .now) (a .challenges .now) (a .alphas .now) (a .offset .limbs)) (a .nodes .now) (q .pre) (l .i) h (c .before .before .admitted .ensures) (not-false _ (c .before .if1 .left)), passed-low (a .s) (lent (a .bases .now) (a .exts .now) (a .main .now) (a .aux .now) (a .challenges .now) (a .alphas .now) (a .offset .limbs)) (a .nodes .now) (a .room .now) (l .room) (l .i) (l .inv .1))
 
 store-value-requires : tie.Need-store-value-requires Inv-loop μ-loop
 store-value-requires c κs = let l = c .before .before .before .before .before .before .before .before .before .before .loop in omega (arith, c .before .before .before .before .before .before .before .before .before .before .before .before .before .before .before .before .before .before .before .pre .room-long, l .inv .1 .long, c .before .before .before .before .before .before .before .before .before .loop-test .taken)

@@ -6,22 +6,22 @@ use borrow.Author.Needs.{needs}
 use Rattle.interp.proofs.value.base_operation.Statement.{statement}
 use Rattle.interp.proofs.value.base_operation.Tie as tie
 
-add-requires : tie.Need-add-requires
-add-requires c κs = search needs
+add-reduced-requires : tie.Need-add-reduced-requires
+add-reduced-requires c κs = search needs
 
-sub-requires : tie.Need-sub-requires
-sub-requires c κs = search needs
+sub-reduced-requires : tie.Need-sub-reduced-requires
+sub-reduced-requires c κs = search needs
 
 mul-requires : tie.Need-mul-requires
 mul-requires c κs = search needs
 
 returns : tie.Need-returns
 unfolding baseOp
-returns c = rw (c .before .match .keys1) (c .add .ensures)
+returns c = rw (c .before .match .keys1) (c .add-reduced .ensures)
 
 returns-2 : tie.Need-returns-2
 unfolding baseOp
-returns-2 c = rw (c .before .match .keys2) (c .sub .ensures)
+returns-2 c = rw (c .before .match .keys2) (c .sub-reduced .ensures)
 
 returns-3 : tie.Need-returns-3
 unfolding baseOp
@@ -29,4 +29,4 @@ returns-3 c = let q = c .before .match .rest in simp (ne-eqb _ _ (q .1), ne-eqb 
 
 pub base-operation-spec : {M : Type 1} → statement M
 base-operation-spec =
-    tie.close (tie.spec add-requires sub-requires mul-requires returns returns-2 returns-3)
+    tie.close (tie.spec add-reduced-requires sub-reduced-requires mul-requires returns returns-2 returns-3)

@@ -5,7 +5,7 @@ use Rattle.interp.proofs.value.operation.Statement.{statement}
 use Rattle.interp.proofs.value.operation.Tie as tie
 
 binary-requires : tie.Need-binary-requires
-binary-requires c κs = let q = c .before .before .pre in (q .0, c .if1 .taken, q .2, q .3 (c .if1 .taken))
+binary-requires c κs = let q = c .before .before .pre in (q .0, c .if1 .taken, q .2, q .3 (c .if1 .taken), q .4, q .5 (c .if1 .taken))
 
 unary-requires : tie.Need-unary-requires
 unary-requires c κs = search needs
