@@ -392,6 +392,44 @@ fn foreign_programs() {
     score.finish(&[0, 12, 13]);
 }
 
+/// As many nodes as each room of the trial holds, and one more; then the same with a last node that is not as it has to be,
+/// which is found when all others have been evaluated: no lent word changes.
+#[test]
+fn rooms_of_the_trial() {
+    const SEED: u64 = 0x726F_6F6D;
+    let mut random = Random::new(SEED);
+    let mut score = Score::new("programs that fill a room of the trial");
+    for nodes in [127, 128, 129, 1_023, 1_024, 1_025, 8_191, 8_192, 8_193] {
+        for i in 0..3 {
+            let what = format_args!("{nodes} nodes, program {i} of seed {SEED:#x}");
+            let shape = small_shape(&mut random);
+            let counts = Counts {
+                nodes,
+                base_consts: 5,
+                ext_consts: 4,
+                roots: 9,
+                num_base: 0,
+            };
+            let mut words = foreign::well_formed(&mut random, counts, &shape, 1_000_000_000);
+            let program = published::program(&words);
+            let (prover, verifier) = frames(&mut random, shape);
+            let case = Case {
+                words: &words,
+                program: &program,
+                prover: &prover,
+                verifier: &verifier,
+            };
+            agree(&mut score, &mut random, &case, what);
+            words.nodes[4 * nodes - 1] = 2;
+            let lengths = Lengths::prover(&words);
+            let answer = compare::eval_program(&mut score, &words, &prover, lengths, what).answer;
+            let place = nodes as u64 - 1;
+            assert_eq!(answer, Err(Refusal { number: 7, place }), "{what}");
+        }
+    }
+    score.finish(&[0, 7, 13]);
+}
+
 /// More of everything than 16 bits count: nodes, constants and roots.
 #[test]
 fn long_programs() {
