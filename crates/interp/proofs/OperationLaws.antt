@@ -80,7 +80,7 @@ joint-is env tag x y l h =
     eight a b c d = omega arith
 
 -- a base value's word
-base-word : {b : ℕ} {l : List ℕ} → Near 3 l (remainders 3 (embedded 3 b)) → limb l 0 ≈ b
+pub base-word : {b : ℕ} {l : List ℕ} → Near 3 l (remainders 3 (embedded 3 b)) → limb l 0 ≈ b
 base-word {b} {l} e =
     (near-trans e (near-sym (remainders-near 3 (embedded 3 b)))) .limb-near 0 (lit< tt) then equal (limb-embedded 3 b 0 (lit< tt))
 

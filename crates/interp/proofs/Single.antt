@@ -26,7 +26,7 @@ use Rattle.interp.specs.Room.{Kept, RoomHolds}
 use Rattle.interp.specs.Evaluation.{saidOfEvaluated, Evaluates, VerifierEvaluates, RowEvaluates}
 
 -- words below p that stand for one element are one word
-one-word : {x y v : ℕ} → x ≈ v → y ≈ v → x < p → y < p → x ≡ y
+pub one-word : {x y v : ℕ} → x ≈ v → y ≈ v → x < p → y < p → x ≡ y
 one-word h k a b = sym (mod-eq-of-lt a) ∙ h .same ∙ sym (k .same) ∙ mod-eq-of-lt b
 
 -- a node's four words

@@ -81,7 +81,7 @@ fn cell(s: Strides, x: u32, y: u32, main: &[u64], aux: &[u64]) -> Value
     }
 }
 
-fn offset_leaf(offset: Ext) -> Value
+pub fn offset_leaf(offset: Ext) -> Value
     ensures { λ r. ⌜ ValueIs (ext (remainders 3 (offset .limbs))) (r .class) (r .limbs .limbs) ⌝ }
 {
     Value {

@@ -115,3 +115,13 @@ module _ {A : Type 0} (step : A → ℕ → A) where
   unfolding through
   through-keeps R keep zero e = e
   through-keeps R keep (suc n) e = keep _ _ n (through-keeps R keep n e)
+
+-- two tests that agree as long as neither has held find the same place
+pub lowest-same : (s t : ℕ → Bool) (n : ℕ) → ((i : ℕ) → i < n → lowest t i ≡ none → s i ≡ t i) → lowest s n ≡ lowest t n
+unfolding lowest
+lowest-same s t zero h = refl
+lowest-same s t (suc n) h = rw (lowest-same s t n (λ i l. h i (omega arith))) (last (lowest t n) refl)
+  where
+    last : (o : Option ℕ) → lowest t n ≡ o → orElse o (cond (s n) (some n) none) ≡ orElse o (cond (t n) (some n) none)
+    last none e = rw (h n (omega arith) e)
+    last (some i) e = refl

@@ -1,6 +1,6 @@
 -- Tests joined by && and ||, taken apart and put together.
 -- Assumes nothing.
-use mathlib.Core.Bool.{Bool, true, false, _&&_, _||_}
+use mathlib.Core.Bool.{Bool, true, false, not, _&&_, _||_}
 use mathlib.Core.Path.{_≡_, refl}
 use Prim.Native.Nat.{ℕ}
 use native.Mathlib.Omega.{arith}
@@ -30,3 +30,7 @@ or-right false b h = h
 
 pub neither : {a b : Bool} → a ≡ false → b ≡ false → (a || b) ≡ false
 neither {a} {b} p q = rw (p, q)
+
+pub not-not : (b : Bool) → not (not b) ≡ b
+not-not true = refl
+not-not false = refl

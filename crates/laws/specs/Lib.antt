@@ -3,3 +3,4 @@ pub mod Algebra
 pub mod Folds
 pub mod Lists
 pub mod Maps
+pub mod Options
