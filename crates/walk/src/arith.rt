@@ -1,0 +1,102 @@
+// Operations on operands, in the base field and in the extension.
+ghost use Prim.Native.Nat.{_<_, _≤_};
+ghost use lib.ListN.{length};
+ghost use Rattle.walk.specs.Slots.{slotWords};
+ghost use Rattle.walk.specs.Steps.{BaseLegal, ExtLegal, UniformsLong, BaseGives, ExtGives};
+use super::load::load_base;
+use super::load::load_ext;
+use device::blob::BlobCounts;
+use field::extensions_goldilocks::Ext;
+use field::goldilocks::Fp;
+use ir::frame::Shape;
+use ir::node::OP_ADD;
+use ir::node::OP_NEG;
+use ir::node::OP_SUB;
+
+// Add, Sub or Mul of base operands.
+fn base_binary(c: BlobCounts, op: u32, a: u32, b: u32, bases: &[u64], slots: &[u64]) -> u64
+    requires { ⌜ (6 ≤ op) × (op < 9) × (c .bases ≤ length (now bases)) × (slotWords c ≤ length (now slots)) × BaseLegal c a × BaseLegal c b ⌝ }
+    ensures { λ r. ⌜ BaseGives c (now (bases .entry)) (now (slots .entry)) op a b r ⌝ }
+{
+    let x = load_base(c, a, bases, slots);
+    let y = load_base(c, b, bases, slots);
+    match op {
+        OP_ADD => Fp::add(x, y),
+        OP_SUB => Fp::sub(x, y),
+        _ => Fp::mul(x, y),
+    }
+}
+
+// An operation whose result is base.
+pub fn base_arith(c: BlobCounts, op: u32, a: u32, b: u32, bases: &[u64], slots: &[u64]) -> u64
+    requires { ⌜ (6 ≤ op) × (op < 10) × (c .bases ≤ length (now bases)) × (slotWords c ≤ length (now slots)) × BaseLegal c a × (op < 9 → BaseLegal c b) ⌝ }
+    ensures { λ r. ⌜ BaseGives c (now (bases .entry)) (now (slots .entry)) op a b r ⌝ }
+{
+    if op < OP_NEG {
+        base_binary(c, op, a, b, bases, slots)
+    } else {
+        Fp::neg(load_base(c, a, bases, slots))
+    }
+}
+
+// Add, Sub or Mul of operands as extension values.
+fn ext_binary(
+    c: BlobCounts,
+    s: Shape,
+    op: u32,
+    a: u32,
+    b: u32,
+    offset: Ext,
+    bases: &[u64],
+    exts: &[u64],
+    challenges: &[u64],
+    alphas: &[u64],
+    slots: &[u64],
+) -> Ext
+    requires { ⌜ (6 ≤ op) × (op < 9) × UniformsLong c s (length (now bases)) (length (now exts)) (length (now challenges)) (length (now alphas)) × (slotWords c ≤ length (now slots)) × ExtLegal c s a × ExtLegal c s b ⌝ }
+    ensures { λ r. ⌜ ExtGives c s (now (bases .entry)) (now (exts .entry)) (now (challenges .entry)) (now (alphas .entry)) (offset .limbs) (now (slots .entry)) op a b (r .limbs) ⌝ }
+{
+    let x = load_ext(c, s, a, offset, bases, exts, challenges, alphas, slots);
+    let y = load_ext(c, s, b, offset, bases, exts, challenges, alphas, slots);
+    match op {
+        OP_ADD => x.add(y),
+        OP_SUB => x.sub(y),
+        _ => x.mul(y),
+    }
+}
+
+// An operation whose result is extension: the negation or the embedding, where it is none of the three.
+pub fn ext_arith(
+    c: BlobCounts,
+    s: Shape,
+    op: u32,
+    a: u32,
+    b: u32,
+    offset: Ext,
+    bases: &[u64],
+    exts: &[u64],
+    challenges: &[u64],
+    alphas: &[u64],
+    slots: &[u64],
+) -> Ext
+    requires { ⌜ (6 ≤ op) × (op ≤ 10) × UniformsLong c s (length (now bases)) (length (now exts)) (length (now challenges)) (length (now alphas)) × (slotWords c ≤ length (now slots)) × ExtLegal c s a × (op < 9 → ExtLegal c s b) ⌝ }
+    ensures { λ r. ⌜ ExtGives c s (now (bases .entry)) (now (exts .entry)) (now (challenges .entry)) (now (alphas .entry)) (offset .limbs) (now (slots .entry)) op a b (r .limbs) ⌝ }
+{
+    if op < OP_NEG {
+        return ext_binary(
+            c,
+            s,
+            op,
+            a,
+            b,
+            offset,
+            bases,
+            exts,
+            challenges,
+            alphas,
+            slots,
+        );
+    }
+    let x = load_ext(c, s, a, offset, bases, exts, challenges, alphas, slots);
+    if op == OP_NEG { x.neg() } else { x.reduce() }
+}
