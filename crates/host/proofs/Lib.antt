@@ -1,4 +1,5 @@
 -- Lemmas of the calls.
+pub mod BlobSingle
 pub mod FieldCallLaws
 pub mod Single
 pub mod ProgramCallLaws

@@ -1,3 +1,4 @@
 -- What the calls promise.
+pub mod BlobCalls
 pub mod FieldCalls
 pub mod ProgramCalls

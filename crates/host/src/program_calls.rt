@@ -51,7 +51,7 @@ fn coded_refusal(why: Refusal) -> u64
     }
 }
 
-fn coded_outcome(o: Outcome) -> u64
+pub fn coded_outcome(o: Outcome) -> u64
     ensures { λ r. ⌜ r ≡ answerOf (saidOfOutcome o) ⌝ }
 {
     match o {
@@ -73,7 +73,7 @@ fn counts_of(n: usize, b: usize, x: usize, r: usize, leading: usize) -> Counts
     }
 }
 
-fn shape_of(steps: usize, width: usize, auxes: usize, rap: usize, powers: usize) -> Shape
+pub fn shape_of(steps: usize, width: usize, auxes: usize, rap: usize, powers: usize) -> Shape
     ensures { λ s. ⌜ s ≡ shape steps width auxes rap powers ⌝ }
 {
     Shape {
@@ -85,7 +85,7 @@ fn shape_of(steps: usize, width: usize, auxes: usize, rap: usize, powers: usize)
     }
 }
 
-fn offset_of(o0: u64, o1: u64, o2: u64) -> Ext
+pub fn offset_of(o0: u64, o1: u64, o2: u64) -> Ext
     ensures { λ e. ⌜ e .limbs ≡ o0 ∷ o1 ∷ o2 ∷ [] ⌝ }
 {
     Ext {
