@@ -7,7 +7,8 @@
  * A pointer is not null and is aligned to its words, also where the length is 0.
  *
  * A call with an answer gives 0 for "done", or 1 where a slice is too short; then no word has changed. A call on programs
- * answers a refusal as its number plus 256 times its place; then too no word has changed.
+ * or blobs answers a refusal as its number plus 256 times its place; then too no word has changed, but for the bytes that
+ * a call on blobs borrows.
  *
  * The numbers of program calls, in the order in which they are tested; where several hold, the first is given:
  *
@@ -21,6 +22,14 @@
  *   13  a leaf is outside the frame; place: the lowest such node, read or not
  *   12  a root that has to be base is extension; place: its constraint, the lowest such
  *   10  the output is too short
+ *
+ * The numbers of blob calls, likewise:
+ *
+ *    2  the shape has over 256 steps or over 65,536 of anything else
+ *    1  a table, the frame, the bytes or the slot room is shorter than counts and shape say
+ *   14  eval buffers are too short
+ *   11  the blob is illegal; place: the lowest node at fault, else the lowest root
+ *   12  a root below num_base is extension; place: the lowest such root. No node and no root is at fault by 11
  *
  * Where no place is named it is 0.
  */
@@ -142,6 +151,40 @@ uint64_t cir_eval_program_base(size_t n, size_t base_count, size_t ext_count, si
                                const uint64_t *base_consts, size_t base_consts_len, const uint64_t *ext_consts,
                                size_t ext_consts_len, const uint32_t *roots, size_t roots_len, const uint64_t *row,
                                size_t row_len, uint64_t *room, size_t room_len, uint64_t *value);
+
+/* ---- blobs
+ *
+ * A blob is a lowered program: four tables, each with its count, and the counts of its slots. It has n nodes of four words
+ * (op, a, b, res), base constants of one word, extension constants of three, and roots, which name slots. A table may be
+ * longer than its count says. Bit 31 of res and of a root means an extension slot. An operand is its kind times 2^29 plus
+ * a payload; the kinds are 0 base slot, 1 extension slot, 2 base constant, 3 extension constant, 4 challenge, 5 alpha
+ * power, 6 table offset. The shape is that of the evaluators; a trace cell, challenge or alpha power outside it is 11.
+ *
+ * The calls borrow one byte a slot, of base_slots plus ext_slots, which may hold anything. The bytes are all 0 after 0, 11
+ * and 12, and are not touched after 2, 1 and 14.
+ */
+
+/* 0 where the walk of a frame with this shape is legal, else 2, 1, 11 or 12. No constant and no cell is looked at. */
+uint64_t cir_check_blob(uint32_t n, uint32_t base_count, uint32_t ext_count, uint32_t root_count, uint32_t num_base,
+                        uint32_t base_slots, uint32_t ext_slots, size_t steps, size_t main_width, size_t aux_width,
+                        size_t challenge_count, size_t alpha_count, const uint32_t *nodes, size_t nodes_len,
+                        const uint32_t *roots, size_t roots_len, uint8_t *bytes, size_t bytes_len);
+
+/* the blob is checked, then walked over one frame, which is as in cir_eval_program; root c below num_base into
+ * base_evals[c], the others into three words of ext_evals from 3 c on; other eval words stay. base_evals needs the smaller
+ * of num_base and root_count, ext_evals three words a root if any is at or past num_base. Else 2, 1, 14, 11 or 12.
+ *
+ * The slot room has one word a base slot, then three words an extension slot, and may hold anything: the call clears it.
+ * After 0 it holds the final slots, those never filled 0; after a refusal it is not touched. */
+uint64_t cir_walk(uint32_t n, uint32_t base_count, uint32_t ext_count, uint32_t root_count, uint32_t num_base,
+                  uint32_t base_slots, uint32_t ext_slots, size_t steps, size_t main_width, size_t aux_width,
+                  size_t challenge_count, size_t alpha_count, uint64_t o0, uint64_t o1, uint64_t o2,
+                  const uint32_t *nodes, size_t nodes_len, const uint64_t *base_consts, size_t base_consts_len,
+                  const uint64_t *ext_consts, size_t ext_consts_len, const uint32_t *roots, size_t roots_len,
+                  const uint64_t *main, size_t main_len, const uint64_t *aux, size_t aux_len,
+                  const uint64_t *challenges, size_t challenges_len, const uint64_t *alphas, size_t alphas_len,
+                  uint64_t *base_evals, size_t base_evals_len, uint64_t *ext_evals, size_t ext_evals_len,
+                  uint8_t *bytes, size_t bytes_len, uint64_t *slots, size_t slots_len);
 
 #ifdef __cplusplus
 }
