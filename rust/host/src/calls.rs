@@ -114,3 +114,65 @@ on_frame!(fn cir_eval_program_verifier(
     room: *mut u64,
     room_len: usize
 ));
+
+/// Declares a call on a blob: counts, the shape of a frame, numbers of its own, the blob's tables and other memory.
+macro_rules! on_blob {
+    (fn $call:ident($($number:ident: $word:ty),*; $($memory:ident: $pointer_or_len:ty),*)) => {
+        unsafe extern "C" {
+            pub fn $call(
+                n: u32,
+                base_count: u32,
+                ext_count: u32,
+                root_count: u32,
+                num_base: u32,
+                base_slots: u32,
+                ext_slots: u32,
+                steps: usize,
+                main_width: usize,
+                aux_width: usize,
+                challenge_count: usize,
+                alpha_count: usize,
+                $($number: $word,)*
+                nodes: *const u32,
+                nodes_len: usize,
+                $($memory: $pointer_or_len,)*
+            ) -> u64;
+        }
+    };
+}
+
+on_blob!(fn cir_check_blob(
+    ;
+    roots: *const u32,
+    roots_len: usize,
+    bytes: *mut u8,
+    bytes_len: usize
+));
+
+on_blob!(fn cir_walk(
+    o0: u64,
+    o1: u64,
+    o2: u64;
+    base_consts: *const u64,
+    base_consts_len: usize,
+    ext_consts: *const u64,
+    ext_consts_len: usize,
+    roots: *const u32,
+    roots_len: usize,
+    main: *const u64,
+    main_len: usize,
+    aux: *const u64,
+    aux_len: usize,
+    challenges: *const u64,
+    challenges_len: usize,
+    alphas: *const u64,
+    alphas_len: usize,
+    base_evals: *mut u64,
+    base_evals_len: usize,
+    ext_evals: *mut u64,
+    ext_evals_len: usize,
+    bytes: *mut u8,
+    bytes_len: usize,
+    slots: *mut u64,
+    slots_len: usize
+));

@@ -4,8 +4,10 @@
 //! writes or returns as a value is below `P`. An extension value is three words in a row, over w with w³ = 2.
 //!
 //! Memory is lent as slices, so a length always belongs to its pointer, and what a call writes overlaps nothing that
-//! it reads. A call that cannot do its work answers a [`Refusal`] and has changed nothing.
+//! it reads. A call that cannot do its work answers a [`Refusal`] and has changed nothing, but for the bytes that the
+//! calls on blobs borrow.
 
+pub mod blob;
 mod calls;
 pub mod ext;
 pub mod field;
@@ -14,7 +16,7 @@ pub mod program;
 /// The field's prime, 2^64 - 2^32 + 1.
 pub const P: u64 = 0xFFFF_FFFF_0000_0001;
 
-/// A call's answer other than "done". Whatever was lent is as it was.
+/// A call's answer other than "done". Whatever was lent is as it was, but for the bytes of [`blob`].
 #[derive(Clone, Copy, Debug, PartialEq, Eq)]
 pub struct Refusal {
     /// The reason's number.
@@ -28,6 +30,7 @@ pub struct Refusal {
     /// | 8 | node count or a constant count over 536,870,911 |
     /// | 9 | `num_base` or the root count over 4,294,967,295 |
     /// | 10 | output room too short |
+    /// | 11 | blob illegal; place: the lowest such node, else the lowest such root |
     /// | 12 | root below `num_base`, or the one asked for, is an extension value; place: the lowest such root |
     /// | 13 | leaf outside the frame; place: the lowest such node |
     /// | 14 | eval slices too short |
