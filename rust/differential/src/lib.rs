@@ -1,11 +1,12 @@
 //! What the comparisons in tests/ share: the inputs, the published operations on plain words, the same operations by
-//! plain arithmetic, and the comparison itself; and all of that once more for programs.
+//! plain arithmetic, and the comparison itself; and all of that once more for programs and for blobs.
 //!
 //! The host promises words below p; the published Rust leaves any word with the right remainder. So a published word
 //! is reduced here before it is compared, and the host's is compared as it is.
 
 #![forbid(unsafe_code)]
 
+pub mod blobs;
 pub mod inputs;
 pub mod plain;
 pub mod programs;

@@ -59,7 +59,7 @@ impl Tally {
     }
 }
 
-/// Counts what a test of programs compared: programs that agree with the published Rust, words, and each number that
+/// Counts what a test of programs or blobs compared: how many agree with the published Rust, words, and each number that
 /// was answered, so that a test can say them and a loop that never got to a refusal shows.
 pub struct Score {
     test: &'static str,
@@ -99,7 +99,7 @@ impl Score {
             .map(|number| format!("{number}: {}", self.answers[number]))
             .collect();
         if agreed != 0 {
-            println!("{test}: {agreed} programs agree with the published Rust");
+            println!("{test}: {agreed} agree with the published Rust");
         }
         println!(
             "{test}: {words} words compared; answers by number {}",

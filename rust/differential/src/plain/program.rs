@@ -7,9 +7,9 @@ use crate::{Limbs, P};
 use host::Refusal;
 use host::program::{Frame, Program, Shape};
 
-type Answer = Result<(), Refusal>;
+pub(super) type Answer = Result<(), Refusal>;
 
-fn refuse(number: u8, place: usize) -> Answer {
+pub(super) fn refuse(number: u8, place: usize) -> Answer {
     Err(Refusal {
         number,
         place: place as u64,
@@ -17,12 +17,12 @@ fn refuse(number: u8, place: usize) -> Answer {
 }
 
 /// Refuses with a number that names no place.
-fn refuse_if(number: u8, holds: bool) -> Answer {
+pub(super) fn refuse_if(number: u8, holds: bool) -> Answer {
     if holds { refuse(number, 0) } else { Ok(()) }
 }
 
 /// Refuses at the lowest place where something is wrong.
-fn refuse_at_lowest(number: u8, mut wrong: impl Iterator<Item = bool>) -> Answer {
+pub(super) fn refuse_at_lowest(number: u8, mut wrong: impl Iterator<Item = bool>) -> Answer {
     match wrong.position(|wrong| wrong) {
         Some(place) => refuse(number, place),
         None => Ok(()),
@@ -133,7 +133,7 @@ fn counts_fit(program: &Program) -> Answer {
 }
 
 /// 2, for a shape.
-fn shape_fits(shape: &Shape) -> Answer {
+pub(super) fn shape_fits(shape: &Shape) -> Answer {
     let most = [shape.main_width, shape.aux_width, shape.challenges, shape.alphas];
     refuse_if(2, 256 < shape.steps || most.iter().any(|count| 65_536 < *count))
 }
@@ -144,7 +144,7 @@ fn width_fits(width: usize) -> Answer {
 }
 
 /// Whether a slice has fewer words than are needed. Wide, so that no product of counts is too large for it.
-fn short(words: usize, needed: &[usize]) -> bool {
+pub(super) fn short(words: usize, needed: &[usize]) -> bool {
     (words as u128) < needed.iter().map(|factor| *factor as u128).product()
 }
 
@@ -158,7 +158,7 @@ fn program_short(program: &Program) -> bool {
 }
 
 /// Whether a table of the frame is shorter than the shape needs, with main cells of so many words.
-fn frame_short(frame: &Frame, main_words: usize) -> bool {
+pub(super) fn frame_short(frame: &Frame, main_words: usize) -> bool {
     let shape = &frame.shape;
     short(frame.main.len(), &[main_words, shape.steps, shape.main_width])
         || short(frame.aux.len(), &[3, shape.steps, shape.aux_width])

@@ -19,20 +19,20 @@ pub type Answer = Result<(), Refusal>;
 const GUARD: usize = 4;
 
 /// Memory lent for writing, once for each side.
-struct Lent<T> {
+pub(crate) struct Lent<T> {
     host: Vec<T>,
     plain: Vec<T>,
     len: usize,
 }
 
 impl Lent<u64> {
-    fn words(len: usize) -> Self {
+    pub(crate) fn words(len: usize) -> Self {
         Self::filled(len, |at| u64::MAX - at as u64)
     }
 }
 
 impl<T: Copy + PartialEq + Debug> Lent<T> {
-    fn filled(len: usize, fill: impl Fn(usize) -> T) -> Self {
+    pub(crate) fn filled(len: usize, fill: impl Fn(usize) -> T) -> Self {
         let words: Vec<T> = (0..len + 2 * GUARD).map(fill).collect();
         Lent {
             host: words.clone(),
@@ -41,17 +41,17 @@ impl<T: Copy + PartialEq + Debug> Lent<T> {
         }
     }
 
-    fn host(&mut self) -> &mut [T] {
+    pub(crate) fn host(&mut self) -> &mut [T] {
         &mut self.host[GUARD..GUARD + self.len]
     }
 
-    fn plain(&mut self) -> &mut [T] {
+    pub(crate) fn plain(&mut self) -> &mut [T] {
         &mut self.plain[GUARD..GUARD + self.len]
     }
 
     /// Compares all words, guards included, and gives those that were lent.
     #[track_caller]
-    fn compared(mut self, name: &str, score: &mut Score, what: Arguments<'_>) -> Vec<T> {
+    pub(crate) fn compared(mut self, name: &str, score: &mut Score, what: Arguments<'_>) -> Vec<T> {
         if let Some(at) = (0..self.host.len()).find(|at| self.host[*at] != self.plain[*at]) {
             panic!(
                 "{what}: word {} of {name} (of {} lent): ours is {:?}, plain is {:?}",
@@ -74,19 +74,19 @@ pub fn fresh_words(len: usize) -> Vec<u64> {
 }
 
 #[track_caller]
-fn same_answer(score: &mut Score, ours: &Answer, plain: &Answer, what: Arguments<'_>) {
+pub(crate) fn same_answer(score: &mut Score, ours: &Answer, plain: &Answer, what: Arguments<'_>) {
     assert_eq!(ours, plain, "{what}: the answers, ours and plain");
     score.answered(ours);
 }
 
 /// Keeps a copy of what is lent for reading and holds it to the copy afterwards.
-struct Kept<'a, T: PartialEq + Debug> {
+pub(crate) struct Kept<'a, T: PartialEq + Debug> {
     lent: &'a T,
     before: T,
 }
 
 impl<'a, T: Clone + PartialEq + Debug> Kept<'a, T> {
-    fn new(lent: &'a T) -> Self {
+    pub(crate) fn new(lent: &'a T) -> Self {
         Kept {
             lent,
             before: lent.clone(),
@@ -94,7 +94,7 @@ impl<'a, T: Clone + PartialEq + Debug> Kept<'a, T> {
     }
 
     #[track_caller]
-    fn compare(self, what: Arguments<'_>) {
+    pub(crate) fn compare(self, what: Arguments<'_>) {
         assert!(
             *black_box(self.lent) == self.before,
             "{what}: what was lent for reading has changed"
@@ -327,7 +327,7 @@ pub fn eval_program_base(
 }
 
 #[track_caller]
-fn below_p(words: &[u64], what: Arguments<'_>) {
+pub(crate) fn below_p(words: &[u64], what: Arguments<'_>) {
     assert!(words.iter().all(|word| *word < P), "{what}: a word is not below p");
 }
 
