@@ -109,6 +109,16 @@ impl Lengths {
         }
     }
 
+    /// The four of them: base evals, extension evals, bytes, slots.
+    pub fn fields_mut(&mut self) -> [&mut usize; 4] {
+        [
+            &mut self.base_evals,
+            &mut self.ext_evals,
+            &mut self.bytes,
+            &mut self.slots,
+        ]
+    }
+
     /// A few more of each.
     pub fn and_more(self, more: usize) -> Self {
         Lengths {
