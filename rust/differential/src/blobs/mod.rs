@@ -2,6 +2,7 @@
 
 pub mod agree;
 pub mod compare;
+pub mod damage;
 pub mod published;
 
 use host::blob::{Blob, BlobCounts};
