@@ -1,12 +1,13 @@
 //! Times of the host's calls against the published Rust, in one process and on the same words.
 //!
-//! Without an argument both parts run; `field` or `programs` names one.
+//! Without an argument all parts run; `field`, `programs` or `walk` names one.
 
 #![forbid(unsafe_code)]
 
 mod field;
 mod programs;
 mod summary;
+mod walk;
 
 use std::env;
 use std::process::ExitCode;
@@ -19,11 +20,14 @@ fn main() -> ExitCode {
             field::run();
             println!();
             programs::run();
+            println!();
+            walk::run();
         }
         ["field"] => field::run(),
         ["programs"] => programs::run(),
+        ["walk"] => walk::run(),
         _ => {
-            eprintln!("bench: the parts are `field` and `programs`");
+            eprintln!("bench: the parts are `field`, `programs` and `walk`");
             return ExitCode::FAILURE;
         }
     }

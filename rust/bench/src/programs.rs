@@ -200,7 +200,7 @@ fn mixture(calls: usize) -> (Published, Shape) {
 }
 
 /// One of the last few values, or any.
-fn operand(random: &mut Random, values: &[Expr]) -> Expr {
+pub fn operand(random: &mut Random, values: &[Expr]) -> Expr {
     let recent = values.len().min(8);
     if random.once_in(2) {
         values[values.len() - 1 - random.below(recent)]
@@ -210,7 +210,7 @@ fn operand(random: &mut Random, values: &[Expr]) -> Expr {
 }
 
 /// A frame of uniform words.
-fn frame(random: &mut Random, shape: Shape) -> Cells {
+pub fn frame(random: &mut Random, shape: Shape) -> Cells {
     let mut words = |count: usize| (0..count).map(|_| random.uniform()).collect();
     Cells {
         shape,
