@@ -16,7 +16,7 @@
 -- `stopsAt` is the place: the lowest node, else the lowest root.
 --
 -- The rule says what happens, not how to test for it beforehand: the blob check is defined apart, in Check.antt, and
--- `exact` of proofs/ says that the two agree. K is any tower; u is what constants, cells and uniforms hold.
+-- `check-is-exact` of proofs/Theorem.antt says that the two agree. K is any tower; u is what constants, cells and uniforms hold.
 -- Assumes nothing.
 use mathlib.Core.Bool.{Bool, true, false, cond, not, _&&_}
 use mathlib.Core.List.{List}
