@@ -1,15 +1,22 @@
 -- Document 01's program E, evaluated: marked sums that the definitions compute.
 -- Assumes nothing.
-use mathlib.Core.Bool.{false}
 use mathlib.Core.List.{List, [], _∷_, map}
 use mathlib.Core.Path.{_≡_, refl}
 use Prim.Native.Nat.{ℕ}
+use lib.ListN.{length, replicate}
 use Rattle.field.specs.Ext.{sums, minuses, embedded, product}
 use Rattle.field.specs.Tower.{goldilocks, remainders}
+use Rattle.laws.specs.Folds.{lowest}
 use Rattle.laws.specs.Maps.{upd}
+use Rattle.ir.specs.declared.program.Counts.{Counts}
+use Rattle.ir.specs.declared.frame.Shape.{Shape}
+use Rattle.ir.specs.Program.{Program, numBase, tooManyNodes, tooManyRoots, shortTables, varOk, leafOk, operationOk, nodeOk, illFormed, checked}
+use Rattle.ir.specs.Refusals.{Row, first, gives}
+use Rattle.ir.specs.Shape.{overShape}
 use Rattle.interp.specs.Values.{Value, leafValue, operationValue, nodeValue, values}
-use Rattle.interp.specs.Frame.{Lent, lent, leaves}
+use Rattle.interp.specs.Frame.{Lent, lent, leaves, cellOutside, outside, proverStrides, frameLimits}
 use Rattle.interp.specs.Evals.{baseEvals, extEvals}
+use Rattle.interp.specs.Evaluation.{shortFrame, shortMemory, shortEvals, extRoot, proverRows, lengths}
 
 -- the nodes that the builder makes of E: node 0 is the constant 0
 pub nodes : List ℕ
@@ -37,18 +44,57 @@ frame =
     (0 ∷ 0 ∷ 0 ∷ 0 ∷ 0 ∷ 0 ∷ 1 ∷ 2 ∷ 3 ∷ 0 ∷ 0 ∷ 0 ∷ 0 ∷ 0 ∷ 0 ∷ 0 ∷ 0 ∷ 0 ∷ [])
     (4 ∷ 5 ∷ 6 ∷ []) [] (0 ∷ 0 ∷ 0 ∷ [])
 
--- two steps of one main and three aux columns
+-- two base constants, no extension constant, and one leading constraint that is base
+pub counts : Counts
+counts = record { nodes = 10; bases = 2; exts = 0; roots = 2; «num_base» = 1 }
+
+-- two steps of one main and three aux columns, one challenge
+pub shape : Shape
+shape = record { steps = 2; main = 1; aux = 3; challenges = 1; alphas = 0 }
+
+-- what is lent for writing: base_evals, ext_evals, and a room of four words a node
+pub base : List ℕ
+base = 7 ∷ []
+
+pub ext : List ℕ
+ext = 11 ∷ 12 ∷ 13 ∷ 14 ∷ 15 ∷ 16 ∷ []
+
+pub room : List ℕ
+room = replicate 40 0
+
+-- ---- no refusal
+
+-- as the check is given it
+pub program : Program
+program = record { counts = counts; nodes = nodes; bases = frame .bases; exts = frame .exts; roots = roots }
+
+-- the check answers 0
+pub check-done : checked program ≡ gives []
+unfolding program counts frame roots nodes checked tooManyNodes tooManyRoots shortTables illFormed nodeOk leafOk varOk operationOk lowest
+check-done = refl
+
+-- the plain evaluator's rows
+pub rows : List Row
+rows = proverRows counts shape (lengths nodes roots frame room) (length base) (length ext) (frameLimits shape) nodes roots
+
+-- none holds: it answers 0
+pub evaluation-done : first rows (gives []) ≡ gives []
+unfolding rows counts shape frame base ext room roots nodes tooManyNodes tooManyRoots overShape shortMemory shortTables shortFrame shortEvals illFormed nodeOk leafOk varOk operationOk cellOutside outside extRoot lowest
+evaluation-done = refl
+
+-- ---- the values
+
 pub env : ℕ → Value ℕ (List ℕ)
-env = values goldilocks (leaves (record { wide = false; main = 1; aux = 3 }) frame) nodes 10
+env = values goldilocks (leaves (proverStrides shape) frame) nodes (counts .nodes)
 
 -- rows of computed words and expected words: base_evals, and ext_evals, whose first three words stay as they were
 pub marked : List (List ℕ × List ℕ)
 marked =
-    (baseEvals env roots 1 2 (7 ∷ []), 3 ∷ [])
-    ∷ (extEvals env roots 1 2 (11 ∷ 12 ∷ 13 ∷ 14 ∷ 15 ∷ 16 ∷ []), 11 ∷ 12 ∷ 13 ∷ 61 ∷ 49 ∷ 28 ∷ [])
+    (baseEvals env roots (numBase counts) (counts .roots) base, 3 ∷ [])
+    ∷ (extEvals env roots (numBase counts) (counts .roots) ext, 11 ∷ 12 ∷ 13 ∷ 61 ∷ 49 ∷ 28 ∷ [])
     ∷ []
 
 -- all rows at once
 pub marked-hold : map (λ (row : List ℕ × List ℕ). row .0) marked ≡ map (λ (row : List ℕ × List ℕ). row .1) marked
-unfolding marked env frame roots nodes baseEvals extEvals values nodeValue leafValue operationValue upd remainders sums minuses embedded product
+unfolding marked env counts shape frame base ext roots nodes baseEvals extEvals values nodeValue leafValue operationValue upd remainders sums minuses embedded product
 marked-hold = refl
