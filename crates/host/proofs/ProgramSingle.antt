@@ -3,32 +3,34 @@
 use mathlib.Core.List.{List}
 use mathlib.Core.Path.{_≡_, sym, ap, _∙_}
 use Prim.Native.Nat.{ℕ}
+use Rattle.ir.specs.declared.program.Counts.{Counts}
+use Rattle.ir.specs.declared.frame.Shape.{Shape}
 use Rattle.ir.specs.declared.refusal.Outcome.{Outcome}
 use Rattle.ir.specs.declared.reads.Columns.{Columns}
 use Rattle.ir.specs.Program.{Program}
 use Rattle.ir.specs.Reads.{ReadsAnswer, saidOfColumns}
-use Rattle.ir.specs.Refusals.{Row, saidOfOutcome}
+use Rattle.ir.specs.Refusals.{saidOfOutcome}
 use Rattle.ir.proofs.Single.{next-row-trace-reads-single}
 use Rattle.interp.specs.declared.interp.Evaluated.{Evaluated}
-use Rattle.interp.specs.Values.{Value}
-use Rattle.interp.specs.Evaluation.{saidOfEvaluated, Evaluates, VerifierEvaluates, RowEvaluates}
+use Rattle.interp.specs.Frame.{Lent}
+use Rattle.interp.specs.Evaluation.{saidOfEvaluated, ProverAnswer, VerifierAnswer, RowAnswer}
 use Rattle.interp.proofs.Single.{eval-program-single, eval-program-verifier-single, eval-program-base-single}
 use Rattle.host.specs.ProgramCalls.{answerOf, Called, CalledBase, CalledReads, onDone}
 
-module _ {rows : List Row} {env : ℕ → Value ℕ (List ℕ)} {n count : ℕ} {roots : List ℕ} {a a′ : ℕ} where
-  pub cir-eval-program-single : {leading : ℕ} {base base₁ base₂ ext ext₁ ext₂ room room₁ room₂ : List ℕ} → Called (λ o. Evaluates rows env n leading count roots o base base₁ ext ext₁ room room₁) a → Called (λ o. Evaluates rows env n leading count roots o base base₂ ext ext₂ room room₂) a′ → (a ≡ a′) × (base₁ ≡ base₂) × (ext₁ ≡ ext₂) × (room₁ ≡ room₂)
+module _ (c : Counts) (s : Shape) (nodes roots : List ℕ) (l : Lent) {a a′ : ℕ} {ext ext₁ ext₂ room room₁ room₂ : List ℕ} where
+  pub cir-eval-program-single : {base base₁ base₂ : List ℕ} → Called (λ o. ProverAnswer c s nodes roots l o base base₁ ext ext₁ room room₁) a → Called (λ o. ProverAnswer c s nodes roots l o base base₂ ext ext₂ room room₂) a′ → (a ≡ a′) × (base₁ ≡ base₂) × (ext₁ ≡ ext₂) × (room₁ ≡ room₂)
   cir-eval-program-single f g =
-      let q = eval-program-single (f .promised) (g .promised) in
+      let q = eval-program-single c s nodes roots l (f .promised) (g .promised) in
       (f .answered ∙ ap (λ (o : Outcome). answerOf (saidOfOutcome o)) (q .0) ∙ sym (g .answered), q .1, q .2, q .3)
 
-  pub cir-eval-program-verifier-single : {ext ext₁ ext₂ room room₁ room₂ : List ℕ} → Called (λ o. VerifierEvaluates rows env n count roots o ext ext₁ room room₁) a → Called (λ o. VerifierEvaluates rows env n count roots o ext ext₂ room room₂) a′ → (a ≡ a′) × (ext₁ ≡ ext₂) × (room₁ ≡ room₂)
+  pub cir-eval-program-verifier-single : Called (λ o. VerifierAnswer c s nodes roots l o ext ext₁ room room₁) a → Called (λ o. VerifierAnswer c s nodes roots l o ext ext₂ room room₂) a′ → (a ≡ a′) × (ext₁ ≡ ext₂) × (room₁ ≡ room₂)
   cir-eval-program-verifier-single f g =
-      let q = eval-program-verifier-single (f .promised) (g .promised) in
+      let q = eval-program-verifier-single c s nodes roots l (f .promised) (g .promised) in
       (f .answered ∙ ap (λ (o : Outcome). answerOf (saidOfOutcome o)) (q .0) ∙ sym (g .answered), q .1, q .2)
 
-pub cir-eval-program-base-single : {rows : List Row} {env : ℕ → Value ℕ (List ℕ)} {n asked : ℕ} {roots room room₁ room₂ : List ℕ} {a a′ value value₁ value₂ : ℕ} → CalledBase (λ o. RowEvaluates rows env n asked roots o room room₁) a value value₁ → CalledBase (λ o. RowEvaluates rows env n asked roots o room room₂) a′ value value₂ → (a ≡ a′) × (value₁ ≡ value₂) × (room₁ ≡ room₂)
-cir-eval-program-base-single {value} f g =
-    let q = eval-program-base-single (f .promised) (g .promised) in (
+pub cir-eval-program-base-single : (c : Counts) (width asked : ℕ) (nodes roots : List ℕ) (l : Lent) {room room₁ room₂ : List ℕ} {a a′ value value₁ value₂ : ℕ} → CalledBase (λ o. RowAnswer c width asked nodes roots l o room room₁) a value value₁ → CalledBase (λ o. RowAnswer c width asked nodes roots l o room room₂) a′ value value₂ → (a ≡ a′) × (value₁ ≡ value₂) × (room₁ ≡ room₂)
+cir-eval-program-base-single c width asked nodes roots l {value} f g =
+    let q = eval-program-base-single c width asked nodes roots l (f .promised) (g .promised) in (
       f .answered ∙ ap (λ (o : Evaluated). answerOf (saidOfEvaluated o)) (q .0) ∙ sym (g .answered),
       f .written ∙ ap (λ (o : Evaluated). onDone (saidOfEvaluated o) value) (q .0) ∙ sym (g .written),
       q .1,

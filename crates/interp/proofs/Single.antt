@@ -1,4 +1,4 @@
--- Each evaluator's promise leaves one answer and one memory.
+-- Each evaluator's promise leaves one answer and one memory: first by any rows and values, then by the contracts' own names.
 -- Assumes nothing.
 use mathlib.Core.Bool.{Bool, true, false, cond}
 use mathlib.Core.List.{List, [], _∷_}
@@ -16,14 +16,17 @@ use Rattle.laws.proofs.Tests.{clash}
 use Rattle.field.specs.Base.{p, _≈_}
 use Rattle.field.specs.Ext.{limb}
 use Rattle.field.specs.Tower.{goldilocks}
+use Rattle.ir.specs.declared.program.Counts.{Counts}
+use Rattle.ir.specs.declared.frame.Shape.{Shape}
 use Rattle.ir.specs.declared.refusal.Outcome.{Outcome}
 use Rattle.ir.specs.Refusals.{Said, Row, anyHolds}
 use Rattle.ir.proofs.Single.{refusalOf, known, outcome-single}
 use Rattle.interp.specs.declared.interp.Evaluated.{Evaluated}
 use Rattle.interp.specs.declared.interp.Evaluated.the-variants.{Base, Rejected}
 use Rattle.interp.specs.Values.{Value, toExt}
+use Rattle.interp.specs.Frame.{Lent}
 use Rattle.interp.specs.Room.{Kept, RoomHolds}
-use Rattle.interp.specs.Evaluation.{saidOfEvaluated, Evaluates, VerifierEvaluates, RowEvaluates}
+use Rattle.interp.specs.Evaluation.{saidOfEvaluated, Evaluates, VerifierEvaluates, RowEvaluates, ProverAnswer, VerifierAnswer, RowAnswer}
 
 -- words below p that stand for one element are one word
 pub one-word : {x y v : ℕ} → x ≈ v → y ≈ v → x < p → y < p → x ≡ y
@@ -65,16 +68,16 @@ room-one b {env} {n} {old} {a} {c} f g h k =
     by-test b (a ≡ c) (λ t. f t ∙ sym (h t)) λ t. room-single (g t) (k t)
 
 module _ {rows : List Row} {env : ℕ → Value ℕ (List ℕ)} {n count : ℕ} {roots : List ℕ} where
-  pub eval-program-single : {leading : ℕ} {r r′ : Outcome} {base base₁ base₂ ext ext₁ ext₂ room room₁ room₂ : List ℕ} → Evaluates rows env n leading count roots r base base₁ ext ext₁ room room₁ → Evaluates rows env n leading count roots r′ base base₂ ext ext₂ room room₂ → (r ≡ r′) × (base₁ ≡ base₂) × (ext₁ ≡ ext₂) × (room₁ ≡ room₂)
-  eval-program-single {leading} {r} {r′} f g = (
+  pub evaluates-single : {leading : ℕ} {r r′ : Outcome} {base base₁ base₂ ext ext₁ ext₂ room room₁ room₂ : List ℕ} → Evaluates rows env n leading count roots r base base₁ ext ext₁ room room₁ → Evaluates rows env n leading count roots r′ base base₂ ext ext₂ room room₂ → (r ≡ r′) × (base₁ ≡ base₂) × (ext₁ ≡ ext₂) × (room₁ ≡ room₂)
+  evaluates-single {leading} {r} {r′} f g = (
     outcome-single r r′ (f .said ∙ sym (g .said)),
     f .base-evals ∙ sym (g .base-evals),
     f .ext-evals ∙ sym (g .ext-evals),
     room-one (anyHolds rows) (f .room-kept) (f .room-holds) (g .room-kept) (g .room-holds),
   )
 
-  pub eval-program-verifier-single : {r r′ : Outcome} {ext ext₁ ext₂ room room₁ room₂ : List ℕ} → VerifierEvaluates rows env n count roots r ext ext₁ room room₁ → VerifierEvaluates rows env n count roots r′ ext ext₂ room room₂ → (r ≡ r′) × (ext₁ ≡ ext₂) × (room₁ ≡ room₂)
-  eval-program-verifier-single {r} {r′} f g = (
+  pub verifier-evaluates-single : {r r′ : Outcome} {ext ext₁ ext₂ room room₁ room₂ : List ℕ} → VerifierEvaluates rows env n count roots r ext ext₁ room room₁ → VerifierEvaluates rows env n count roots r′ ext ext₂ room room₂ → (r ≡ r′) × (ext₁ ≡ ext₂) × (room₁ ≡ room₂)
+  verifier-evaluates-single {r} {r′} f g = (
     outcome-single r r′ (f .said ∙ sym (g .said)),
     f .ext-evals ∙ sym (g .ext-evals),
     room-one (anyHolds rows) (f .room-kept) (f .room-holds) (g .room-kept) (g .room-holds),
@@ -88,8 +91,20 @@ evaluated-back : (r : Evaluated) → evaluatedSaid (saidOfEvaluated r) ≡ r
 evaluated-back (Base v) = refl
 evaluated-back (Rejected w) = rw (known w .0, known w .1)
 
-pub eval-program-base-single : {rows : List Row} {env : ℕ → Value ℕ (List ℕ)} {n asked : ℕ} {roots : List ℕ} {r r′ : Evaluated} {room room₁ room₂ : List ℕ} → RowEvaluates rows env n asked roots r room room₁ → RowEvaluates rows env n asked roots r′ room room₂ → (r ≡ r′) × (room₁ ≡ room₂)
-eval-program-base-single {rows} {env} {n} {asked} {roots} {r} {r′} f g = (
+pub row-evaluates-single : {rows : List Row} {env : ℕ → Value ℕ (List ℕ)} {n asked : ℕ} {roots : List ℕ} {r r′ : Evaluated} {room room₁ room₂ : List ℕ} → RowEvaluates rows env n asked roots r room room₁ → RowEvaluates rows env n asked roots r′ room room₂ → (r ≡ r′) × (room₁ ≡ room₂)
+row-evaluates-single {rows} {env} {n} {asked} {roots} {r} {r′} f g = (
   sym (evaluated-back r) ∙ ap evaluatedSaid (f .said ∙ sym (g .said)) ∙ evaluated-back r′,
   room-one (anyHolds rows) (f .room-kept) (f .room-holds) (g .room-kept) (g .room-holds),
 )
+
+-- ---- the three contracts
+
+module _ (c : Counts) (s : Shape) (nodes roots : List ℕ) (l : Lent) {room room₁ room₂ : List ℕ} where
+  pub eval-program-single : {r r′ : Outcome} {base base₁ base₂ ext ext₁ ext₂ : List ℕ} → ProverAnswer c s nodes roots l r base base₁ ext ext₁ room room₁ → ProverAnswer c s nodes roots l r′ base base₂ ext ext₂ room room₂ → (r ≡ r′) × (base₁ ≡ base₂) × (ext₁ ≡ ext₂) × (room₁ ≡ room₂)
+  eval-program-single f g = evaluates-single f g
+
+  pub eval-program-verifier-single : {r r′ : Outcome} {ext ext₁ ext₂ : List ℕ} → VerifierAnswer c s nodes roots l r ext ext₁ room room₁ → VerifierAnswer c s nodes roots l r′ ext ext₂ room room₂ → (r ≡ r′) × (ext₁ ≡ ext₂) × (room₁ ≡ room₂)
+  eval-program-verifier-single f g = verifier-evaluates-single f g
+
+pub eval-program-base-single : (c : Counts) (width asked : ℕ) (nodes roots : List ℕ) (l : Lent) {r r′ : Evaluated} {room room₁ room₂ : List ℕ} → RowAnswer c width asked nodes roots l r room room₁ → RowAnswer c width asked nodes roots l r′ room room₂ → (r ≡ r′) × (room₁ ≡ room₂)
+eval-program-base-single c width asked nodes roots l f g = row-evaluates-single f g

@@ -13,7 +13,7 @@ use Rattle.ir.specs.declared.refusal.Refusal.the-variants.{ShortMemory, 
 use Rattle.ir.specs.declared.refusal.Outcome.{Outcome}
 use Rattle.ir.specs.declared.refusal.Outcome.the-variants.{Done}
 use Rattle.ir.specs.declared.refusal.Outcome.the-variants as Outcomes
-use Rattle.ir.specs.Program.{Program}
+use Rattle.ir.specs.Program.{Program, checked}
 use Rattle.ir.specs.Reads.{saidOfColumns, ReadsAnswer}
 use Rattle.ir.specs.Refusals.{Said, saidOf, saidOfOutcome}
 
@@ -66,8 +66,8 @@ pub outcome-single : (o o′ : Outcome) → saidOfOutcome o ≡ saidOfOutcome o�
 outcome-single o o′ e = sym (outcome-back o) ∙ ap outcomeSaid e ∙ outcome-back o′
 
 -- the program check's contract is an equation on what is said: one answer
-pub check-program-single : {s : Said} {o o′ : Outcome} → saidOfOutcome o ≡ s → saidOfOutcome o′ ≡ s → o ≡ o′
-check-program-single {s} {o} {o′} f g = outcome-single o o′ (f ∙ sym g)
+pub check-program-single : (p : Program) {o o′ : Outcome} → saidOfOutcome o ≡ checked p → saidOfOutcome o′ ≡ checked p → o ≡ o′
+check-program-single p {o} {o′} f g = outcome-single o o′ (f ∙ sym g)
 
 -- ---- next_row_trace_reads
 
