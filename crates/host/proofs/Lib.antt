@@ -2,5 +2,6 @@
 pub mod BlobSingle
 pub mod FieldCallLaws
 pub mod Single
+pub mod PlaceLaws
 pub mod ProgramCallLaws
 pub mod ProgramSingle
