@@ -17,17 +17,34 @@ const fn many(blobs: usize) -> usize {
     if cfg!(debug_assertions) { blobs / 10 } else { blobs }
 }
 
-/// Compares a damaged blob, and counts it.
+/// Compares a blob in both calls, and counts it.
 #[track_caller]
-fn damaged(score: &mut Score, count: &mut u64, words: &BlobWords, cells: &Cells, what: Arguments<'_>) {
+fn compared(score: &mut Score, count: &mut u64, words: &BlobWords, cells: &Cells, what: Arguments<'_>) {
     let more = (*count % 3) as usize;
     agree(score, words, cells, more, what);
     *count += 1;
 }
 
+/// What a blob and its frame were before something was changed.
+type Before = (BlobWords, Cells);
+
+/// Compares a changed blob, and counts it. What comes out as it was is left out.
+#[track_caller]
+fn damaged(
+    score: &mut Score,
+    count: &mut u64,
+    before: &Before,
+    (words, cells): (&BlobWords, &Cells),
+    what: Arguments<'_>,
+) {
+    if (words, cells) != (&before.0, &before.1) {
+        compared(score, count, words, cells, what);
+    }
+}
+
 #[track_caller]
 fn said(score: Score, test: &str, count: u64, numbers: &[usize]) {
-    println!("{test}: {count} damaged blobs");
+    println!("{test}: {count} blobs");
     score.finish(numbers);
 }
 
@@ -39,13 +56,14 @@ fn single_words() {
     let mut score = Score::new("single words");
     let mut count = 0;
     let hostile = hostile_words();
-    for (i, (words, cells)) in small_blobs(&mut random, many(250), 12).iter().enumerate() {
+    for (i, before) in small_blobs(&mut random, many(250), 12).iter().enumerate() {
+        let (words, cells) = before;
         let mut changed = words.clone();
         for at in 0..words.nodes.len() + words.roots.len() {
             for new in &hostile {
                 let old = set(&mut changed, at, *new);
                 let what = format_args!("blob {i} of seed {SEED:#x}, word {at} from {old:#x} to {new:#x}");
-                damaged(&mut score, &mut count, &changed, cells, what);
+                damaged(&mut score, &mut count, before, (&changed, cells), what);
                 set(&mut changed, at, old);
             }
         }
@@ -61,14 +79,15 @@ fn single_bits() {
     let mut random = Random::new(SEED);
     let mut score = Score::new("single bits");
     let mut count = 0;
-    for (i, (words, cells)) in small_blobs(&mut random, many(250), 12).iter().enumerate() {
+    for (i, before) in small_blobs(&mut random, many(250), 12).iter().enumerate() {
+        let (words, cells) = before;
         let mut changed = words.clone();
         for at in 0..words.nodes.len() + words.roots.len() {
             for bit in 0..32 {
                 let old = set(&mut changed, at, 0);
                 set(&mut changed, at, old ^ 1 << bit);
                 let what = format_args!("blob {i} of seed {SEED:#x}, bit {bit} of word {at}, {old:#x}");
-                damaged(&mut score, &mut count, &changed, cells, what);
+                damaged(&mut score, &mut count, before, (&changed, cells), what);
                 set(&mut changed, at, old);
             }
         }
@@ -84,13 +103,14 @@ fn moved_nodes_and_roots() {
     let mut random = Random::new(SEED);
     let mut score = Score::new("moved nodes and roots");
     let mut count = 0;
-    for (i, (words, cells)) in small_blobs(&mut random, many(200), 16).iter().enumerate() {
+    for (i, before) in small_blobs(&mut random, many(200), 16).iter().enumerate() {
+        let (words, cells) = before;
         let nodes: Vec<&[u32]> = words.nodes.chunks_exact(4).collect();
         let mut with_nodes = |nodes: &[&[u32]], what: Arguments<'_>| {
             let mut changed = words.clone();
             changed.nodes = nodes.concat();
             changed.counts.nodes = nodes.len() as u32;
-            damaged(&mut score, &mut count, &changed, cells, what);
+            damaged(&mut score, &mut count, before, (&changed, cells), what);
         };
         for a in 0..nodes.len() {
             for b in 0..nodes.len() {
@@ -120,7 +140,7 @@ fn moved_nodes_and_roots() {
                 for num_base in [0, words.counts.num_base, at as u32, at as u32 + 1, u32::MAX] {
                     changed.counts.num_base = num_base;
                     let what = format_args!("blob {i} of seed {SEED:#x}, root {at} to {root:#x}, num_base {num_base}");
-                    damaged(&mut score, &mut count, &changed, cells, what);
+                    damaged(&mut score, &mut count, before, (&changed, cells), what);
                 }
             }
         }
@@ -160,10 +180,10 @@ fn counts_and_shapes_off() {
         for (table, more) in tables {
             table.extend(random.words(more));
         }
-        for (words, cells) in [&(words.clone(), cells.clone()), &spare] {
+        for before in [&(words.clone(), cells.clone()), &spare] {
             for field in 0..12 {
                 for step in [-2, -1, 1, 2] {
-                    let (mut words, mut cells) = (words.clone(), cells.clone());
+                    let (mut words, mut cells) = before.clone();
                     let shape = &mut cells.shape;
                     let shape = [
                         &mut shape.steps,
@@ -178,6 +198,9 @@ fn counts_and_shapes_off() {
                     } else {
                         let count = &mut *shape.into_iter().nth(field - 7).expect("a shape has five fields");
                         *count = count.saturating_add_signed(step as isize);
+                    }
+                    if (&words, &cells) == (&before.0, &before.1) {
+                        continue;
                     }
                     let what = format_args!("blob {i} of seed {SEED:#x}, count {field} by {step}");
                     let lengths = Lengths::of(&words.counts).and_more((count % 3) as usize);
@@ -265,11 +288,11 @@ fn several_changes() {
     let mut count = 0;
     let blobs = small_blobs(&mut random, 300, 40);
     for i in 0..many(400_000) {
-        let (words, cells) = &blobs[random.below(blobs.len())];
-        let (mut words, mut cells) = (words.clone(), cells.clone());
+        let before = &blobs[random.below(blobs.len())];
+        let (mut words, mut cells) = before.clone();
         change_some(&mut random, &mut words, &mut cells);
         let what = format_args!("damaged blob {i} of seed {SEED:#x}");
-        damaged(&mut score, &mut count, &words, &cells, what);
+        damaged(&mut score, &mut count, before, (&words, &cells), what);
     }
     let agreed = score.agreed;
     assert!(cfg!(debug_assertions) || 50_000 <= agreed, "{agreed}");
@@ -312,7 +335,7 @@ fn every_node_over_a_small_set() {
                         [1 + (count % 2) as u32, 2, 2],
                     );
                     let what = format_args!("node {tag} {a:#x} {b:#x} {res:#x}");
-                    damaged(&mut score, &mut count, &words, &cells, what);
+                    compared(&mut score, &mut count, &words, &cells, what);
                 }
             }
         }
