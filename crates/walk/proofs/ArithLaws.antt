@@ -7,6 +7,8 @@ use mathlib.Core.Path.{_≡_, refl, sym, ap, _∙_}
 use Prim.Native.Nat.{ℕ, _+_, _*_, _%_, _<_, _≤_}
 use native.Mathlib.Omega.{arith}
 use lib.Dec.{eqb}
+use borrow.Author.Tests.{eqb-true, eqb-false}
+use Rattle.laws.proofs.Cases.{by-test}
 use Rattle.laws.specs.Options.{on1, on2, onlyIf, at}
 use Rattle.laws.proofs.Folds.{none-some}
 use Rattle.laws.proofs.Options.{only-some}
@@ -70,6 +72,17 @@ module _ (c : BlobCounts) (consts room : List ℕ) (op a b : ℕ) {x r : ℕ} wh
             let q = two (λ i j. base (op₀ goldilocks o i j)) (baseOperand kinds c s u m a) (baseOperand kinds c s u m b) (rw (e, wide) at z) in
             rw (← q .4) (base-result o (f .follows s u t m (q .0) held (q .2)) (g .follows s u t m (q .1) held (q .3)) h);
       }
+
+  -- the result that is chosen out of all three
+  pub base-chosen-gives : {y sum difference made : ℕ} → 6 ≤ op → op < 9 → ReadsBase c consts room a x → ReadsBase c consts room b y
+      → Is₀ plus x y sum → Is₀ minus x y difference → Is₀ times x y made → r ≡ cond (eqb op 8) made (cond (eqb op 7) difference sum) → BaseGives c consts room op a b r
+  base-chosen-gives l h f g s d m e =
+      by-test (eqb op 8) _ (λ t. base-binary-gives times (ap (at tags) (eqb-true op 8 t)) f g (rw (rw t at e) m))
+      λ t. by-test (eqb op 7) _ (λ z. base-binary-gives minus (ap (at tags) (eqb-true op 7 z)) f g (rw (rw (t, z) at e) d))
+      λ z. base-binary-gives plus (ap (at tags) (six l h (eqb-false op 8 t) (eqb-false op 7 z))) f g (rw (rw (t, z) at e) s)
+    where
+      six : {k : ℕ} → 6 ≤ k → k < 9 → (k ≡ 8 → ⊥) → (k ≡ 7 → ⊥) → k ≡ 6
+      six l h u v = omega arith
 
   pub base-negation-gives : op ≡ 9 → ReadsBase c consts room a x → Is (Field.minus x) r → BaseGives c consts room op a b r
   base-negation-gives e f h =

@@ -1,5 +1,8 @@
 // Operations on operands, in the base field and in the extension.
+ghost use mathlib.Core.Bool.{cond};
+ghost use mathlib.Core.Path.{_≡_};
 ghost use Prim.Native.Nat.{_<_, _≤_};
+ghost use lib.Dec.{eqb};
 ghost use lib.ListN.{length};
 ghost use Rattle.walk.specs.Slots.{slotWords};
 ghost use Rattle.walk.specs.Steps.{BaseLegal, ExtLegal, UniformsLong, BaseGives, ExtGives};
@@ -10,8 +13,18 @@ use field::extensions_goldilocks::Ext;
 use field::goldilocks::Fp;
 use ir::frame::Shape;
 use ir::node::OP_ADD;
+use ir::node::OP_MUL;
 use ir::node::OP_NEG;
 use ir::node::OP_SUB;
+
+// The result of an operation, out of those of all three. This takes no jump: which operation comes next cannot be foretold,
+// and a jump gone wrong costs more than computing all three.
+fn chosen(op: u32, sum: u64, difference: u64, product: u64) -> u64
+    ensures { λ r. ⌜ r ≡ cond (eqb op 8) product (cond (eqb op 7) difference sum) ⌝ }
+{
+    let either = if op == OP_SUB { difference } else { sum };
+    if op == OP_MUL { product } else { either }
+}
 
 // Add, Sub or Mul of base operands.
 fn base_binary(c: BlobCounts, op: u32, a: u32, b: u32, bases: &[u64], slots: &[u64]) -> u64
@@ -20,11 +33,7 @@ fn base_binary(c: BlobCounts, op: u32, a: u32, b: u32, bases: &[u64], slots: &[u
 {
     let x = load_base(c, a, bases, slots);
     let y = load_base(c, b, bases, slots);
-    match op {
-        OP_ADD => Fp::add(x, y),
-        OP_SUB => Fp::sub(x, y),
-        _ => Fp::mul(x, y),
-    }
+    chosen(op, Fp::add(x, y), Fp::sub(x, y), Fp::mul(x, y))
 }
 
 // An operation whose result is base.

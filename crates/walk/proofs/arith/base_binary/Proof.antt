@@ -1,12 +1,10 @@
 use borrow.Author.Needs.{needs}
-use Rattle.walk.proofs.ArithLaws.{base-binary-gives, is-mul}
-use Rattle.device.specs.Blob.{plus, minus, times, tags}
-use Rattle.laws.specs.Options.{at}
-use mathlib.Core.Path.{ap}
+use Rattle.walk.proofs.ArithLaws.{base-chosen-gives}
 use Rattle.walk.proofs.arith.base_binary.Statement.{statement}
 use Rattle.walk.proofs.arith.base_binary.Tie as tie
 use Rattle.walk.proofs.arith.base_binary.Reads as reads
 use Rattle.walk.proofs.arith.base_binary.Lts as lts
+use Rattle.walk.proofs.arith.chosen.Reads as chosen-reads
 use Rattle.field.proofs.goldilocks.Fp.add.Reads as add-reads
 use Rattle.field.proofs.goldilocks.Fp.mul.Reads as mul-reads
 use Rattle.field.proofs.goldilocks.Fp.sub.Reads as sub-reads
@@ -33,16 +31,12 @@ mul-requires : tie.Need-mul-requires
 mul-requires c κs = search needs
 
 -- src/arith.rt:17:1
+chosen-requires : tie.Need-chosen-requires
+chosen-requires c κs = search needs
+
+-- src/arith.rt:17:1
 returns : tie.Need-returns
-returns c = let a = c .before .before .before .before .before .before .args in let p = c .before .before .before .before .before .before .pre in base-binary-gives (a .c) (a .bases .now) (a .slots .now) (a .op) (a .a) (a .b) plus (ap (at tags) (c .before .match .keys1)) (c .before .before .before .load-base .ensures) (c .before .before .load-base2 .ensures) (c .add .ensures)
-
--- src/arith.rt:17:1
-returns-2 : tie.Need-returns-2
-returns-2 c = let a = c .before .before .before .before .before .before .args in let p = c .before .before .before .before .before .before .pre in base-binary-gives (a .c) (a .bases .now) (a .slots .now) (a .op) (a .a) (a .b) minus (ap (at tags) (c .before .match .keys2)) (c .before .before .before .load-base .ensures) (c .before .before .load-base2 .ensures) (c .sub .ensures)
-
--- src/arith.rt:17:1
-returns-3 : tie.Need-returns-3
-returns-3 c = let a = c .before .before .before .before .before .before .args in let p = c .before .before .before .before .before .before .pre in let q = c .before .match .rest in base-binary-gives (a .c) (a .bases .now) (a .slots .now) (a .op) (a .a) (a .b) times (ap (at tags) (is-mul (p .0) (p .1) (q .0 .1) (q .1))) (c .before .before .before .load-base .ensures) (c .before .before .load-base2 .ensures) (c .mul .ensures)
+returns c = let a = c .before .before .before .before .before .before .before .before .args in let p = c .before .before .before .before .before .before .before .before .pre in base-chosen-gives (a .c) (a .bases .now) (a .slots .now) (a .op) (a .a) (a .b) (p .0) (p .1) (c .before .before .before .before .before .load-base .ensures) (c .before .before .before .before .load-base2 .ensures) (c .before .before .before .add .ensures) (c .before .before .sub .ensures) (c .before .mul .ensures) (c .chosen .ensures)
 
 pub base-binary-spec : {M : Type 1} → statement M
 base-binary-spec =
@@ -53,6 +47,5 @@ base-binary-spec =
     add-requires
     sub-requires
     mul-requires
-    returns
-    returns-2
-    returns-3)
+    chosen-requires
+    returns)
