@@ -64,6 +64,9 @@ ext-result times e f h = ext-is (limbs-stand h (near-trans (product-near e f) (r
 
 -- ---- base results
 
+is-add : {k : ℕ} → 6 ≤ k → k < 9 → (k ≡ 8 → ⊥) → (k ≡ 7 → ⊥) → k ≡ 6
+is-add l h a b = omega arith
+
 module _ (c : BlobCounts) (consts room : List ℕ) (op a b : ℕ) {x r : ℕ} where
   pub base-binary-gives : (o : Binary) {y : ℕ} → at tags op ≡ some (binary o) → ReadsBase c consts room a x → ReadsBase c consts room b y → Is₀ o x y r → BaseGives c consts room op a b r
   base-binary-gives o e f g h =
@@ -79,10 +82,7 @@ module _ (c : BlobCounts) (consts room : List ℕ) (op a b : ℕ) {x r : ℕ} wh
   base-chosen-gives l h f g s d m e =
       by-test (eqb op 8) _ (λ t. base-binary-gives times (ap (at tags) (eqb-true op 8 t)) f g (rw (rw t at e) m))
       λ t. by-test (eqb op 7) _ (λ z. base-binary-gives minus (ap (at tags) (eqb-true op 7 z)) f g (rw (rw (t, z) at e) d))
-      λ z. base-binary-gives plus (ap (at tags) (six l h (eqb-false op 8 t) (eqb-false op 7 z))) f g (rw (rw (t, z) at e) s)
-    where
-      six : {k : ℕ} → 6 ≤ k → k < 9 → (k ≡ 8 → ⊥) → (k ≡ 7 → ⊥) → k ≡ 6
-      six l h u v = omega arith
+      λ z. base-binary-gives plus (ap (at tags) (is-add l h (eqb-false op 8 t) (eqb-false op 7 z))) f g (rw (rw (t, z) at e) s)
 
   pub base-negation-gives : op ≡ 9 → ReadsBase c consts room a x → Is (Field.minus x) r → BaseGives c consts room op a b r
   base-negation-gives e f h =
@@ -110,6 +110,13 @@ module _ (c : BlobCounts) (s : Shape) (bases exts challenges alphas offset room 
             rw (← q .4) (ext-result o (f .follows u t m (q .0) held (q .2)) (g .follows u t m (q .1) held (q .3)) h);
       }
 
+  -- the sum or the difference, whichever is chosen
+  pub ext-either-gives : {x y sum difference r : List ℕ} → 6 ≤ op → op < 9 → (op ≡ 8 → ⊥) → Reads a x → Reads b y → Is₁ plus x y sum → Is₁ minus x y difference
+      → r ≡ cond (eqb op 7) difference sum → Gives r
+  ext-either-gives l h n f g s d e =
+      by-test (eqb op 7) _ (λ z. ext-binary-gives minus (ap (at tags) (eqb-true op 7 z)) f g (rw (rw z at e) d))
+      λ z. ext-binary-gives plus (ap (at tags) (is-add l h n (eqb-false op 7 z))) f g (rw (rw z at e) s)
+
   pub ext-negation-gives : {x r : List ℕ} → op ≡ 9 → Reads a x → Limbs 3 (minuses 3 x) r → Gives r
   ext-negation-gives e f h =
       record {
@@ -129,9 +136,6 @@ module _ (c : BlobCounts) (s : Shape) (bases exts challenges alphas offset room 
       }
 
 -- ---- which operation it is, once the others are left out
-
-pub is-mul : {k : ℕ} → 6 ≤ k → k < 9 → (k ≡ 6 → ⊥) → (k ≡ 7 → ⊥) → k ≡ 8
-is-mul l h a b = omega arith
 
 pub is-neg : {k : ℕ} → 9 ≤ k → k < 10 → k ≡ 9
 is-neg l h = omega arith

@@ -12,7 +12,6 @@ use device::blob::BlobCounts;
 use field::extensions_goldilocks::Ext;
 use field::goldilocks::Fp;
 use ir::frame::Shape;
-use ir::node::OP_ADD;
 use ir::node::OP_MUL;
 use ir::node::OP_NEG;
 use ir::node::OP_SUB;
@@ -48,6 +47,13 @@ pub fn base_arith(c: BlobCounts, op: u32, a: u32, b: u32, bases: &[u64], slots: 
     }
 }
 
+// The same of two extension results; the product costs too much to be computed along.
+fn either(op: u32, sum: Ext, difference: Ext) -> Ext
+    ensures { λ r. ⌜ r .limbs ≡ cond (eqb op 7) (difference .limbs) (sum .limbs) ⌝ }
+{
+    if op == OP_SUB { difference } else { sum }
+}
+
 // Add, Sub or Mul of operands as extension values.
 fn ext_binary(
     c: BlobCounts,
@@ -67,11 +73,10 @@ fn ext_binary(
 {
     let x = load_ext(c, s, a, offset, bases, exts, challenges, alphas, slots);
     let y = load_ext(c, s, b, offset, bases, exts, challenges, alphas, slots);
-    match op {
-        OP_ADD => x.add(y),
-        OP_SUB => x.sub(y),
-        _ => x.mul(y),
+    if op == OP_MUL {
+        return x.mul(y);
     }
+    either(op, x.add(y), x.sub(y))
 }
 
 // An operation whose result is extension: the negation or the embedding, where it is none of the three.
