@@ -1,0 +1,3 @@
+-- Laws of lowering.
+pub mod ScanLaws
+pub mod SlotLaws

@@ -1,0 +1,4 @@
+-- What lowering makes of a program.
+pub mod ExampleE
+pub mod Liveness
+pub mod Lower

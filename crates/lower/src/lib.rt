@@ -1,0 +1,1 @@
+// Lowering, after device.rs: what it is stands in specs/; its code comes with the next step.
