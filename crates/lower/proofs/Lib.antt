@@ -1,3 +1,7 @@
 -- Laws of lowering.
+pub mod PutLaws
 pub mod ScanLaws
+pub mod SimLaws
 pub mod SlotLaws
+pub mod ValueLaws
+pub mod WordLaws
