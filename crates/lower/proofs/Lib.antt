@@ -1,4 +1,5 @@
 -- Laws of lowering.
+pub mod LiveLaws
 pub mod PutLaws
 pub mod ScanLaws
 pub mod SimLaws
