@@ -62,7 +62,7 @@ module _ {B X : Type 0} (K : Tower B X) (u : Contents B X) (c : Counts) (nodes r
   class-dim : (j : ℕ) → j < c .nodes → classOf (val j) ≡ dim j
   class-dim j h = class-is-dim K (leavesOf u) (λ step col. refl) c nodes roots wf (suc j) h j (omega arith)
 
-  dim-low : (j : ℕ) → j < c .nodes → dim j < 2
+  pub dim-low : (j : ℕ) → j < c .nodes → dim j < 2
   dim-low j h = go (val j) (class-dim j h)
     where
       go : (w : Value B X) → classOf w ≡ dim j → dim j < 2
@@ -74,7 +74,7 @@ module _ {B X : Type 0} (K : Tower B X) (u : Contents B X) (c : Counts) (nodes r
   Holds sc m = (j t : ℕ) → j < c .nodes → sc .slot j ≡ suc t → slotAt m (dim j) t ≡ some (val j)
 
   -- a slot's number is small
-  slot-low : (i j t : ℕ) → i ≤ c .nodes → (scan nodes v i) .slot j ≡ suc t → t < 536870911
+  pub slot-low : (i j t : ℕ) → i ≤ c .nodes → (scan nodes v i) .slot j ≡ suc t → t < 536870911
   slot-low i j t h e = omega (arith, scan-kept nodes v i .good .low j t e, next-le nodes v i (dim j), fits .few)
 
   uniform-leaf : (w : Node) → isUniform w ≡ true → (w .tag < 6) × (w .tag ≡ 2 → ⊥)

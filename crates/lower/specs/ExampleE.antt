@@ -33,6 +33,7 @@ roots = 5 ∷ 9 ∷ []
 pub lowers :
     lowered counts nodes roots (0 ∷ 1 ∷ []) [] (live counts nodes roots)
     ≡ record {
+      count = 7;
       nodes =
           2 ∷ 0 ∷ 65536 ∷ 0
           ∷ 2 ∷ 0 ∷ 65792 ∷ 1

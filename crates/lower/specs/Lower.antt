@@ -10,7 +10,8 @@ use Rattle.laws.specs.Maps.{upd}
 use Rattle.field.specs.Base.{p}
 use Rattle.ir.specs.declared.program.Counts.{Counts}
 use Rattle.ir.specs.Words.{Node, nodeAt, constBase, constExt, var, rapChallenge, alphaPow, add, neg}
-use Rattle.device.specs.Blob.{Instr}
+use Rattle.ir.specs.Program.{numBase}
+use Rattle.device.specs.Blob.{Instr, Blob}
 use Rattle.lower.specs.Liveness.{operands, Liveness, live}
 
 -- the state of the scan: each node's slot plus one, 0 for none; the free slots of each class, last freed first; how many
@@ -99,8 +100,9 @@ abbrev pub flat : List Instr → List ℕ
 flat [] = []
 flat (w ∷ ws) = w .op ∷ w .a ∷ w .b ∷ w .res ∷ flat ws
 
--- what lowering makes: the words of nodes, roots and constants, and the slots of each class
+-- what lowering makes: how many nodes, the words of nodes, roots and constants, and the slots of each class
 pub record Lowered : Type 0 where
+  pub count : ℕ
   pub nodes : List ℕ
   pub bases : List ℕ
   pub exts : List ℕ
@@ -117,10 +119,29 @@ abbrev pub lowered : Counts → (nodes roots bases exts : List ℕ) → Liveness
 lowered c nodes roots bases exts v =
     let s = scan nodes v (c .nodes) in
     record {
+      count = length (s .out);
       nodes = flat (s .out);
       bases = tabulate (c .bases) (λ k. getD bases k 0 % p);
       exts = tabulate (3 * c .exts) (λ k. getD exts k 0 % p);
       roots = tabulate (c .roots) (λ r. rootWord nodes (s .slot) (getD roots r 0));
       base-slots = s .next 0;
       ext-slots = s .next 1;
+    }
+
+-- the blob that it is: constants' counts, roots' count and num_base are carried over
+abbrev pub blobOf : Counts → Lowered → Blob
+blobOf c l =
+    record {
+      counts =
+          record {
+            nodes = l .count;
+            bases = c .bases;
+            exts = c .exts;
+            roots = c .roots;
+            «num_base» = numBase c;
+            «base_slots» = l .base-slots;
+            «ext_slots» = l .ext-slots;
+          };
+      nodes = l .nodes;
+      roots = l .roots;
     }
