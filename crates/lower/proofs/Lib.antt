@@ -1,5 +1,6 @@
 -- Laws of lowering.
 pub mod LiveLaws
+pub mod MarkLaws
 pub mod PassLaws
 pub mod PutLaws
 pub mod ScanLaws

@@ -1,1 +1,2 @@
-// Lowering, after device.rs: what it is stands in specs/; its code comes with the next step.
+// Lowering, after device.rs.
+pub mod liveness;

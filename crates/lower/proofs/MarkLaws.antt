@@ -1,0 +1,69 @@
+-- The liveness lists, node by node.
+-- Assumes nothing.
+use mathlib.Core.Bool.{Bool, true, false, cond, not, _&&_, _||_}
+use mathlib.Core.List.{List, [], _∷_}
+use mathlib.Core.Path.{_≡_, refl, sym, ap, _∙_}
+use Prim.Native.Nat.{ℕ, zero, suc, _+_, _*_, _<_, _≤_}
+use native.Mathlib.Omega.{arith}
+use native.Mathlib.Numerals.{add-one}
+use lib.Dec.{eqb, ltb}
+use lib.ListN.{length, getD, set, length-set}
+use lib.Seq.{getD-set-same, getD-set-other}
+use borrow.Author.Tests.{eqb-true, eqb-false, lt-ltb, le-ltb}
+use Rattle.laws.specs.Folds.{anyBelow}
+use Rattle.laws.proofs.Cases.{by-test}
+use Rattle.ir.specs.declared.program.Counts.{Counts}
+use Rattle.ir.specs.Words.{Node, nodeAt}
+use Rattle.lower.specs.Liveness.{has, operands, readsOf, lastBy}
+use Rattle.lower.specs.Arrays.{Tab, bit, Readers, NodeMarked}
+
+-- a store, as a change of the map
+pub set-at : (l : List ℕ) (x v j : ℕ) → x < length l → getD (set l x v) j 0 ≡ cond (eqb j x) v (getD l j 0)
+set-at l x v j h =
+    by-test (eqb j x) (getD (set l x v) j 0 ≡ cond (eqb j x) v (getD l j 0))
+    (λ t. rw (t, eqb-true j x t) (getD-set-same l x v 0 h))
+    λ t. rw t (getD-set-other l x j v 0 (eqb-false j x t))
+
+cond-or : (a b : Bool) (v w : ℕ) → cond a v (cond b v w) ≡ cond (b || (a || false)) v w
+cond-or true true v w = refl
+cond-or true false v w = refl
+cond-or false true v w = refl
+cond-or false false v w = refl
+
+cond-one : (b : Bool) (v w : ℕ) → cond b v w ≡ cond (b || false) v w
+cond-one true v w = refl
+cond-one false v w = refl
+
+module _ (i tag x y : ℕ) (used last : List ℕ) where
+  pub marked-none : tag < 6 → NodeMarked i tag x y used last used last
+  marked-none h =
+      record {
+        used-long = refl;
+        last-long = refl;
+        reads = λ j. rw (lt-ltb tag 6 h) refl;
+        lasts = λ j. rw (lt-ltb tag 6 h) refl;
+      }
+
+  module _ (same : length last ≡ length used) (first : x < length used) where
+    -- one operand
+    pub marked-one : {used′ last′ : List ℕ} → 6 ≤ tag → 9 ≤ tag → used′ ≡ set used x 1 → last′ ≡ set last x i → NodeMarked i tag x y used last used′ last′
+    marked-one h k u l =
+        record {
+          used-long = rw u (length-set used x 1);
+          last-long = rw l (length-set last x i);
+          reads = λ j. rw (u, le-ltb tag 6 h, le-ltb tag 9 k) (set-at used x 1 j first ∙ cond-one (eqb j x) 1 (getD used j 0));
+          lasts = λ j. rw (l, le-ltb tag 6 h, le-ltb tag 9 k) (set-at last x i j (omega arith) ∙ cond-one (eqb j x) i (getD last j 0));
+        }
+
+    -- two operands
+    pub marked-two : {used₁ last₁ used′ last′ : List ℕ} → 6 ≤ tag → tag < 9 → y < length used → used₁ ≡ set used x 1 → last₁ ≡ set last x i → used′ ≡ set used₁ y 1 → last′ ≡ set last₁ y i
+        → NodeMarked i tag x y used last used′ last′
+    marked-two h k second u l u′ l′ =
+        record {
+          used-long = rw (u′, u) (length-set (set used x 1) y 1 ∙ length-set used x 1);
+          last-long = rw (l′, l) (length-set (set last x i) y i ∙ length-set last x i);
+          reads = λ j. rw (u′, u, le-ltb tag 6 h, lt-ltb tag 9 k)
+              (set-at (set used x 1) y 1 j (omega (arith, length-set used x 1)) ∙ ap (cond (eqb j y) 1) (set-at used x 1 j first) ∙ cond-or (eqb j y) (eqb j x) 1 (getD used j 0));
+          lasts = λ j. rw (l′, l, le-ltb tag 6 h, lt-ltb tag 9 k)
+              (set-at (set last x i) y i j (omega (arith, length-set last x i)) ∙ ap (cond (eqb j y) i) (set-at last x i j (omega arith)) ∙ cond-or (eqb j y) (eqb j x) i (getD last j 0));
+        }

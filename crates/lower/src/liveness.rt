@@ -1,0 +1,29 @@
+// Which nodes are read, by whom last, and which are roots. Dead readers count.
+ghost use mathlib.Core.Path.{_≡_};
+ghost use Prim.Native.Nat.{_<_, _≤_, _*_};
+ghost use lib.ListN.{length, set};
+ghost use Rattle.lower.specs.Arrays.{OperandsBelow, NodeMarked};
+use ir::node::OP_ADD;
+use ir::node::OP_NEG;
+
+// Node i reads node j.
+fn note(i: u32, j: usize, used: &mut [u32], last_use: &mut [u32])
+    requires { ⌜ (j < length (now used)) × (j < length (now last_use)) ⌝ }
+    ensures { λ _. ⌜ (now (used .exit) ≡ set (now (used .entry)) j 1) × (now (last_use .exit) ≡ set (now (last_use .entry)) j i) ⌝ }
+{
+    used[j] = 1;
+    last_use[j] = i;
+}
+
+fn mark_node(i: u32, tag: u32, x: u32, y: u32, used: &mut [u32], last_use: &mut [u32])
+    requires { ⌜ OperandsBelow tag x y (length (now used)) × (length (now last_use) ≡ length (now used)) ⌝ }
+    ensures { λ _. ⌜ NodeMarked i tag x y (now (used .entry)) (now (last_use .entry)) (now (used .exit)) (now (last_use .exit)) ⌝ }
+{
+    if tag < OP_ADD {
+        return;
+    }
+    note(i, x as usize, used, last_use);
+    if tag < OP_NEG {
+        note(i, y as usize, used, last_use);
+    }
+}
