@@ -41,17 +41,17 @@ left-out used root true u e = refl
 left-out used root false u e = clash (rw u refl) e
 
 module _ (c : Counts) (nodes roots : List ℕ) where
-  root-is : (r : ℕ) → r < c .roots → isRoot c nodes roots (getD roots r 0) ≡ true
+  root-is : (r : ℕ) → r < c .roots → isRoot c roots (getD roots r 0) ≡ true
   unfolding isRoot
   root-is r h = any-some (λ k. eqb (getD roots k 0) (getD roots r 0)) (c .roots) r h (eq-eqb (getD roots r 0) (getD roots r 0) refl)
 
-  last-after : (k i j : ℕ) → i < k → readsOf c nodes roots j i ≡ true → i ≤ lastBy c nodes roots k j
+  last-after : (k i j : ℕ) → i < k → readsOf nodes j i ≡ true → i ≤ lastBy nodes k j
   unfolding lastBy
   last-after zero i j h e = absurd (omega arith)
   last-after (suc k) i j h e =
       let ih = last-after k i j in
-      cond-case (λ (x : ℕ). i ≤ x) (readsOf c nodes roots j k) k (lastBy c nodes roots k j) (λ q. omega arith)
-      λ q. by-cases (ℕ-discrete i k) (λ z. clash (ap (readsOf c nodes roots j) (sym z) ∙ e) q) λ z. ih (omega arith) e
+      cond-case (λ (x : ℕ). i ≤ x) (readsOf nodes j k) k (lastBy nodes k j) (λ q. omega arith)
+      λ q. by-cases (ℕ-discrete i k) (λ z. clash (ap (readsOf nodes j) (sym z) ∙ e) q) λ z. ih (omega arith) e
 
   pub live-sound : Sound c nodes roots (live c nodes roots)
   unfolding isUsed
@@ -59,10 +59,10 @@ module _ (c : Counts) (nodes roots : List ℕ) where
       record {
         root-emitted =
             λ r h. let j = getD roots r 0 in
-            root-in (anyBelow (readsOf c nodes roots j) (c .nodes)) (isRoot c nodes roots j) (isUniform (nodeAt nodes j)) (root-is r h);
+            root-in (anyBelow (readsOf nodes j) (c .nodes)) (isRoot c roots j) (isUniform (nodeAt nodes j)) (root-is r h);
         root-pinned = root-is;
         operand-named =
-            λ i j h e o q. left-out (anyBelow (readsOf c nodes roots j) (c .nodes)) (isRoot c nodes roots j) (isUniform (nodeAt nodes j))
-            (any-some (readsOf c nodes roots j) (c .nodes) i h o) q;
+            λ i j h e o q. left-out (anyBelow (readsOf nodes j) (c .nodes)) (isRoot c roots j) (isUniform (nodeAt nodes j))
+            (any-some (readsOf nodes j) (c .nodes) i h o) q;
         last-read = λ i j h e o q. last-after (c .nodes) i j h o;
       }

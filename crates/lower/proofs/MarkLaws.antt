@@ -67,3 +67,21 @@ module _ (i tag x y : ℕ) (used last : List ℕ) where
           lasts = λ j. rw (l′, l, le-ltb tag 6 h, lt-ltb tag 9 k)
               (set-at (set last x i) y i j (omega (arith, length-set last x i)) ∙ ap (cond (eqb j y) i) (set-at last x i j (omega arith)) ∙ cond-or (eqb j y) (eqb j x) i (getD last j 0));
         }
+
+-- one node more
+pub readers-more : (nodes : List ℕ) (i n : ℕ) {used last used′ last′ : List ℕ} → Readers nodes i n used last
+    → NodeMarked i (nodeAt nodes i .tag) (nodeAt nodes i .x) (nodeAt nodes i .y) used last used′ last′ → Readers nodes (i + 1) n used′ last′
+unfolding anyBelow lastBy
+readers-more nodes i n {used} {last} r m =
+    record {
+      used-long = m .used-long ∙ r .used-long;
+      last-long = m .last-long ∙ r .last-long;
+      reads = λ j h. rw (add-one i) (m .reads j ∙ ap (cond (readsOf nodes j i) 1) (r .reads j h) ∙ marked (readsOf nodes j i) (anyBelow (readsOf nodes j) i));
+      lasts = λ j h. rw (add-one i) (m .lasts j ∙ ap (cond (readsOf nodes j i) i) (r .lasts j h));
+    }
+  where
+    marked : (t before : Bool) → cond t 1 (bit before) ≡ bit (before || t)
+    marked true true = refl
+    marked true false = refl
+    marked false true = refl
+    marked false false = refl

@@ -22,16 +22,21 @@ bit b = cond b 1 0
 -- ---- liveness
 
 -- what is known after the first k nodes: whether one of them reads node j, and the last that does
-pub record Readers (c : Counts) (nodes roots : List ℕ) (k n : ℕ) (used last : List ℕ) : Type 0 where
+pub record Readers (nodes : List ℕ) (k n : ℕ) (used last : List ℕ) : Type 0 where
   pub used-long : length used ≡ n
   pub last-long : length last ≡ n
-  pub reads : Tab used n (λ j. bit (anyBelow (readsOf c nodes roots j) k))
-  pub lasts : Tab last n (lastBy c nodes roots k)
+  pub reads : Tab used n (λ j. bit (anyBelow (readsOf nodes j) k))
+  pub lasts : Tab last n (lastBy nodes k)
 
 -- a node's operands are places of a list
 pub record OperandsBelow (tag x y n : ℕ) : Type 0 where
   pub first : add ≤ tag → x < n
   pub second : add ≤ tag → tag < neg → y < n
+
+-- the words of n nodes, whose operands are among them
+pub record NodesBelow (nodes : List ℕ) (n : ℕ) : Type 0 where
+  pub nodes-long : 4 * n ≤ length nodes
+  pub node : (i : ℕ) → i < n → OperandsBelow (nodeAt nodes i .tag) (nodeAt nodes i .x) (nodeAt nodes i .y) n
 
 -- what a node adds: its operands are read, and it is the last that reads them so far
 pub record NodeMarked (i tag x y : ℕ) (used last used′ last′ : List ℕ) : Type 0 where

@@ -30,31 +30,31 @@ pub record Liveness : Type 0 where
   pub lastUse : ℕ → ℕ
   pub pinned : ℕ → Bool
 
+-- node k, dead or not, reads node j
+abbrev pub readsOf : List ℕ → ℕ → ℕ → Bool
+readsOf nodes j k = has j (operands (nodeAt nodes k))
+
+-- the greatest of the first k nodes that reads node j, 0 if none does
+unfoldable pub lastBy : List ℕ → ℕ → ℕ → ℕ
+lastBy nodes zero j = 0
+lastBy nodes (suc k) j = cond (readsOf nodes j k) k (lastBy nodes k j)
+
+-- a root names node j
+unfoldable pub isRoot : Counts → List ℕ → ℕ → Bool
+isRoot c roots j = anyBelow (λ r. eqb (getD roots r 0) j) (c .roots)
+
 module _ (c : Counts) (nodes roots : List ℕ) where
-  -- node k, dead or not, reads node j
-  abbrev pub readsOf : ℕ → ℕ → Bool
-  readsOf j k = has j (operands (nodeAt nodes k))
-
-  -- a root names node j
-  unfoldable pub isRoot : ℕ → Bool
-  isRoot j = anyBelow (λ r. eqb (getD roots r 0) j) (c .roots)
-
-  -- the greatest of the first k nodes that reads node j, 0 if none does
-  unfoldable pub lastBy : ℕ → ℕ → ℕ
-  lastBy zero j = 0
-  lastBy (suc k) j = cond (readsOf j k) k (lastBy k j)
-
   -- any node reads it, or it is a root
   unfoldable pub isUsed : ℕ → Bool
-  isUsed j = anyBelow (readsOf j) (c .nodes) || isRoot j
+  isUsed j = anyBelow (readsOf nodes j) (c .nodes) || isRoot c roots j
 
   -- document 01's: a used node is emitted unless it is a uniform leaf and no root; dead readers count; roots are pinned
   abbrev pub live : Liveness
   live =
       record {
-        emitted = λ j. isUsed j && (not (isUniform (nodeAt nodes j)) || isRoot j);
-        lastUse = lastBy (c .nodes);
-        pinned = isRoot;
+        emitted = λ j. isUsed j && (not (isUniform (nodeAt nodes j)) || isRoot c roots j);
+        lastUse = lastBy nodes (c .nodes);
+        pinned = isRoot c roots;
       }
 
 -- what the scan asks of a liveness: roots are emitted and never give their slot back; an operand of an emitted node is emitted

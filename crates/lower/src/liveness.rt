@@ -2,7 +2,7 @@
 ghost use mathlib.Core.Path.{_≡_};
 ghost use Prim.Native.Nat.{_<_, _≤_, _*_};
 ghost use lib.ListN.{length, set};
-ghost use Rattle.lower.specs.Arrays.{OperandsBelow, NodeMarked};
+ghost use Rattle.lower.specs.Arrays.{OperandsBelow, NodesBelow, NodeMarked, Readers};
 use ir::node::OP_ADD;
 use ir::node::OP_NEG;
 
@@ -25,5 +25,24 @@ fn mark_node(i: u32, tag: u32, x: u32, y: u32, used: &mut [u32], last_use: &mut 
     note(i, x as usize, used, last_use);
     if tag < OP_NEG {
         note(i, y as usize, used, last_use);
+    }
+}
+
+pub fn mark_readers(n: usize, nodes: &[u32], used: &mut [u32], last_use: &mut [u32])
+    requires { ⌜ NodesBelow (now nodes) n × (n < 536870912) × Readers (now nodes) 0 n (now used) (now last_use) ⌝ }
+    ensures { λ _. ⌜ Readers (now (nodes .entry)) n n (now (used .exit)) (now (last_use .exit)) ⌝ }
+{
+    let mut i: usize = 0;
+    while i < n {
+        let at = 4 * i;
+        mark_node(
+            i as u32,
+            nodes[at],
+            nodes[at + 1],
+            nodes[at + 2],
+            used,
+            last_use,
+        );
+        i += 1;
     }
 }
