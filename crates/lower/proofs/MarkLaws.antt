@@ -9,13 +9,14 @@ use native.Mathlib.Numerals.{add-one}
 use lib.Dec.{eqb, ltb}
 use lib.ListN.{length, getD, set, length-set}
 use lib.Seq.{getD-set-same, getD-set-other}
-use borrow.Author.Tests.{eqb-true, eqb-false, lt-ltb, le-ltb}
+use borrow.Author.Tests.{eqb-true, eqb-false, eq-eqb, ne-eqb, lt-ltb, le-ltb}
 use Rattle.laws.specs.Folds.{anyBelow}
 use Rattle.laws.proofs.Cases.{by-test}
+use Rattle.laws.proofs.Tests.{clash}
 use Rattle.ir.specs.declared.program.Counts.{Counts}
 use Rattle.ir.specs.Words.{Node, nodeAt}
 use Rattle.lower.specs.Liveness.{has, operands, readsOf, lastBy}
-use Rattle.lower.specs.Arrays.{Tab, bit, Readers, NodeMarked}
+use Rattle.lower.specs.Arrays.{Tab, bit, Readers, NodeMarked, Rooted}
 
 -- a store, as a change of the map
 pub set-at : (l : List ℕ) (x v j : ℕ) → x < length l → getD (set l x v) j 0 ≡ cond (eqb j x) v (getD l j 0)
@@ -29,6 +30,12 @@ cond-or true true v w = refl
 cond-or true false v w = refl
 cond-or false true v w = refl
 cond-or false false v w = refl
+
+eqb-swap : (a b : ℕ) → eqb a b ≡ eqb b a
+eqb-swap a b =
+    by-test (eqb a b) (eqb a b ≡ eqb b a)
+    (λ t. t ∙ sym (eq-eqb b a (sym (eqb-true a b t))))
+    λ t. t ∙ sym (ne-eqb b a (λ e. eqb-false a b t (sym e)))
 
 cond-one : (b : Bool) (v w : ℕ) → cond b v w ≡ cond (b || false) v w
 cond-one true v w = refl
@@ -85,3 +92,22 @@ readers-more nodes i n {used} {last} r m =
     marked true false = refl
     marked false true = refl
     marked false false = refl
+
+-- one root more
+pub rooted-more : (roots : List ℕ) (k n : ℕ) (marks : List ℕ) (marks′ : List ℕ) → getD roots k 0 < n → marks′ ≡ set marks (getD roots k 0) 1 → Rooted roots k n marks → Rooted roots (k + 1) n marks′
+unfolding anyBelow
+rooted-more roots k n marks marks′ h e m =
+    let x = getD roots k 0 in (
+      rw e (length-set marks x 1 ∙ m .0),
+      λ j b. rw (add-one k, e)
+      (set-at marks x 1 j (omega (arith, m .0)) ∙ ap (cond (eqb j x) 1) (m .1 j b)
+      ∙ marked (eqb j x) (eqb x j) (eqb-swap j x) (anyBelow (λ r. eqb (getD roots r 0) j) k)),
+    )
+  where
+    marked : (t u : Bool) → t ≡ u → (before : Bool) → cond t 1 (bit before) ≡ bit (before || u)
+    marked true true e true = refl
+    marked true true e false = refl
+    marked false false e true = refl
+    marked false false e false = refl
+    marked true false e b = clash refl e
+    marked false true e b = clash e refl

@@ -44,3 +44,12 @@ pub record NodeMarked (i tag x y : ℕ) (used last used′ last′ : List ℕ) :
   pub last-long : length last′ ≡ length last
   pub reads : (j : ℕ) → getD used′ j 0 ≡ cond (has j (operands (record { tag = tag; x = x; y = y; dim = 0 }))) 1 (getD used j 0)
   pub lasts : (j : ℕ) → getD last′ j 0 ≡ cond (has j (operands (record { tag = tag; x = x; y = y; dim = 0 }))) i (getD last j 0)
+
+-- each root is one of n nodes
+pub record RootsBelow (roots : List ℕ) (count n : ℕ) : Type 0 where
+  pub roots-long : count ≤ length roots
+  pub below : (r : ℕ) → r < count → getD roots r 0 < n
+
+-- the nodes that the first k roots name
+abbrev pub Rooted : List ℕ → ℕ → ℕ → List ℕ → Type 0
+Rooted roots k n is-root = (length is-root ≡ n) × Tab is-root n (λ j. bit (anyBelow (λ r. eqb (getD roots r 0) j) k))

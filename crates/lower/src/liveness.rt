@@ -2,7 +2,7 @@
 ghost use mathlib.Core.Path.{_≡_};
 ghost use Prim.Native.Nat.{_<_, _≤_, _*_};
 ghost use lib.ListN.{length, set};
-ghost use Rattle.lower.specs.Arrays.{OperandsBelow, NodesBelow, NodeMarked, Readers};
+ghost use Rattle.lower.specs.Arrays.{OperandsBelow, NodesBelow, NodeMarked, Readers, RootsBelow, Rooted};
 use ir::node::OP_ADD;
 use ir::node::OP_NEG;
 
@@ -44,5 +44,24 @@ pub fn mark_readers(n: usize, nodes: &[u32], used: &mut [u32], last_use: &mut [u
             last_use,
         );
         i += 1;
+    }
+}
+
+// Node j is a root.
+fn pin(j: u32, is_root: &mut [u32])
+    requires { ⌜ j < length (now «is_root») ⌝ }
+    ensures { λ _. ⌜ now («is_root» .exit) ≡ set (now («is_root» .entry)) j 1 ⌝ }
+{
+    is_root[j as usize] = 1;
+}
+
+pub fn mark_roots(n: usize, count: usize, roots: &[u32], is_root: &mut [u32])
+    requires { ⌜ RootsBelow (now roots) count n × Rooted (now roots) 0 n (now «is_root») ⌝ }
+    ensures { λ _. ⌜ Rooted (now (roots .entry)) count n (now («is_root» .exit)) ⌝ }
+{
+    let mut r: usize = 0;
+    while r < count {
+        pin(roots[r], is_root);
+        r += 1;
     }
 }
