@@ -2,6 +2,7 @@
 pub mod LiveLaws
 pub mod MarkLaws
 pub mod PassLaws
+pub mod PoolLaws
 pub mod PutLaws
 pub mod ScanLaws
 pub mod SimLaws

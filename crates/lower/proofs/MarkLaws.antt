@@ -100,8 +100,8 @@ rooted-more roots k n marks marks′ h e m =
     let x = getD roots k 0 in (
       rw e (length-set marks x 1 ∙ m .0),
       λ j b. rw (add-one k, e)
-      (set-at marks x 1 j (omega (arith, m .0)) ∙ ap (cond (eqb j x) 1) (m .1 j b)
-      ∙ marked (eqb j x) (eqb x j) (eqb-swap j x) (anyBelow (λ r. eqb (getD roots r 0) j) k)),
+          (set-at marks x 1 j (omega (arith, m .0)) ∙ ap (cond (eqb j x) 1) (m .1 j b)
+          ∙ marked (eqb j x) (eqb x j) (eqb-swap j x) (anyBelow (λ r. eqb (getD roots r 0) j) k)),
     )
   where
     marked : (t u : Bool) → t ≡ u → (before : Bool) → cond t 1 (bit before) ≡ bit (before || u)

@@ -1,15 +1,17 @@
 -- How the lent lists stand for liveness and scan: for inner functions, no public promise cites it.
 -- Assumes nothing.
 use mathlib.Core.Bool.{Bool, true, false, cond, not, _&&_, _||_}
-use mathlib.Core.List.{List, [], _∷_}
+use mathlib.Core.List.{List, [], _∷_, _++_}
 use mathlib.Core.Path.{_≡_}
 use Prim.Native.Nat.{ℕ, zero, suc, _+_, _*_, _<_, _≤_}
 use lib.Dec.{eqb, ltb}
-use lib.ListN.{length, getD}
+use lib.ListN.{length, getD, drop}
 use Rattle.laws.specs.Folds.{anyBelow}
 use Rattle.ir.specs.declared.program.Counts.{Counts}
 use Rattle.ir.specs.Words.{Node, nodeAt, var, add, neg}
-use Rattle.lower.specs.Liveness.{has, operands, readsOf, isRoot, lastBy, Liveness}
+use Rattle.device.specs.Blob.{Instr}
+use Rattle.lower.specs.Liveness.{has, operands, isUniform, readsOf, isRoot, lastBy, Liveness}
+use Rattle.lower.specs.Lower.{Scan, pick, left, more, slotWord, encode, written, give, giveAll, claim, scan, flat}
 
 -- the first n words of a list are the map's
 abbrev pub Tab : List ℕ → ℕ → (ℕ → ℕ) → Type 0
@@ -53,3 +55,80 @@ pub record RootsBelow (roots : List ℕ) (count n : ℕ) : Type 0 where
 -- the nodes that the first k roots name
 abbrev pub Rooted : List ℕ → ℕ → ℕ → List ℕ → Type 0
 Rooted roots k n is-root = (length is-root ≡ n) × Tab is-root n (λ j. bit (anyBelow (λ r. eqb (getD roots r 0) j) k))
+
+-- the liveness that three lists say
+abbrev pub listed : (emitted last pinned : List ℕ) → Liveness
+listed emitted last pinned =
+    record {
+      emitted = λ j. not (eqb (getD emitted j 0) 0);
+      lastUse = λ j. getD last j 0;
+      pinned = λ j. not (eqb (getD pinned j 0) 0);
+    }
+
+-- ---- the scan
+
+-- the free slots of class c, of which there are k: each at every other place from c on, the last freed first
+unfoldable pub stack : List ℕ → ℕ → ℕ → List ℕ
+stack l c zero = []
+stack l c (suc k) = getD l (2 * k + c) 0 ∷ stack l c k
+
+-- how many words of a list are not 0
+unfoldable pub busy : List ℕ → ℕ
+busy [] = 0
+busy (x ∷ l) = cond (eqb x 0) (busy l) (suc (busy l))
+
+-- the slots that are held or free
+abbrev pub slotsIn : (slot tops : List ℕ) → ℕ
+slotsIn slot tops = busy slot + (getD tops 0 0 + getD tops 1 0)
+
+-- the lists stand for a state of the scan
+pub record Stands (n : ℕ) (slot free tops next : List ℕ) (s : Scan) : Type 0 where
+  pub slot-long : length slot ≡ n
+  pub free-long : length free ≡ 2 * n
+  pub pairs : (length tops ≡ 2) × (length next ≡ 2)
+  pub slots : Tab slot n (s .slot)
+  pub frees : (c : ℕ) → c < 2 → stack free c (getD tops c 0) ≡ s .free c
+  pub nexts : (c : ℕ) → c < 2 → getD next c 0 ≡ s .next c
+
+-- node j's words are there, and its class is one
+pub record ClassOk (nodes : List ℕ) (j : ℕ) : Type 0 where
+  pub long : 4 * j + 4 ≤ length nodes
+  pub dim : nodeAt nodes j .dim < 2
+
+-- a class's slot can be taken
+pub record TakeOk (class : ℕ) (free tops next : List ℕ) : Type 0 where
+  pub known : class < 2
+  pub pairs : (length tops ≡ 2) × (length next ≡ 2)
+  pub room : 2 * getD tops class 0 ≤ length free
+  pub few : getD next class 0 < 536870912
+
+-- a slot is taken: the others of its class, and those of the other class, stay
+pub record Takes (class : ℕ) (free tops next : List ℕ) (k : ℕ) (tops′ next′ : List ℕ) : Type 0 where
+  pub picked : k ≡ pick (stack free class (getD tops class 0)) (getD next class 0)
+  pub rest : stack free class (getD tops′ class 0) ≡ left (stack free class (getD tops class 0))
+  pub count : getD next′ class 0 ≡ more (stack free class (getD tops class 0)) (getD next class 0)
+  pub other-tops : (c : ℕ) → (c ≡ class → ⊥) → getD tops′ c 0 ≡ getD tops c 0
+  pub other-next : (c : ℕ) → (c ≡ class → ⊥) → getD next′ c 0 ≡ getD next c 0
+  pub fewer : getD tops′ class 0 ≤ getD tops class 0
+  pub pairs : (length tops′ ≡ 2) × (length next′ ≡ 2)
+
+-- a slot of a class can be pushed
+pub record PushOk (class : ℕ) (free tops : List ℕ) : Type 0 where
+  pub known : class < 2
+  pub pair : length tops ≡ 2
+  pub room : 2 * getD tops class 0 + class < length free
+
+-- operand j can give its slot back
+pub record GiveOk (j : ℕ) (nodes last pinned slot free tops next : List ℕ) : Type 0 where
+  pub place : j < length slot
+  pub last-long : length last ≡ length slot
+  pub pinned-long : length pinned ≡ length slot
+  pub free-long : length free ≡ 2 * length slot
+  pub class : ClassOk nodes j
+  pub pairs : (length tops ≡ 2) × (length next ≡ 2)
+  pub few : slotsIn slot tops ≤ length slot
+
+-- at node i operand j gives its slot back, if the definition says so
+pub record Gives (i j : ℕ) (nodes last pinned slot free tops next slot′ free′ tops′ : List ℕ) : Type 0 where
+  pub few : slotsIn slot′ tops′ ≡ slotsIn slot tops
+  pub follows : (emitted : List ℕ) (s : Scan) → Stands (length slot) slot free tops next s → Stands (length slot) slot′ free′ tops′ next (give nodes (listed emitted last pinned) i j s)

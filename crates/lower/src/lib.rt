@@ -1,2 +1,3 @@
 // Lowering, after device.rs.
 pub mod liveness;
+pub mod scan;
