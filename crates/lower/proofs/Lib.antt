@@ -7,5 +7,6 @@ pub mod PutLaws
 pub mod ScanLaws
 pub mod SimLaws
 pub mod SlotLaws
+pub mod StepLaws
 pub mod ValueLaws
 pub mod WordLaws

@@ -150,6 +150,7 @@ module _ (i j : ℕ) (nodes last pinned slot free tops next : List ℕ) (g : Giv
   pub gives-none : test (getD slot j 0) ≡ false → Gives i j nodes last pinned slot free tops next slot free tops
   gives-none e =
       record {
+        long = (refl, refl, g .pairs .0);
         few = refl;
         follows = λ emitted s v. let q : s .slot j ≡ getD slot j 0 = sym (v .slots j (g .place)) in rw (q, e) v;
       }
@@ -163,6 +164,7 @@ module _ (i j : ℕ) (nodes last pinned slot free tops next : List ℕ) (g : Giv
       let tops′ = set tops class (top + 1) in
       let here : getD tops′ class 0 ≡ top + 1 = getD-set-same tops class (top + 1) 0 (omega (arith, g .pairs .0, g .class .dim)) in
       record {
+        long = (length-set slot j 0, length-set free (2 * top + class) k, length-set tops class (top + 1) ∙ g .pairs .0);
         few = omega (arith, busy-clear slot j n, tops-push tops class (g .class .dim) (g .pairs .0));
         follows = λ emitted s v.
             let q : s .slot j ≡ getD slot j 0 = sym (v .slots j (g .place)) in
