@@ -4,6 +4,7 @@ pub mod MarkLaws
 pub mod PassLaws
 pub mod PoolLaws
 pub mod PutLaws
+pub mod ReadyLaws
 pub mod ScanLaws
 pub mod SimLaws
 pub mod SlotLaws

@@ -94,6 +94,13 @@ busy-set (x ∷ l) (suc j) v =
     let h = busy-set l j v in
     by-test (eqb x 0) (busy (set (x ∷ l) (suc j) v) ≤ suc (busy (x ∷ l))) (λ t. rw t h) λ t. rw t (omega arith)
 
+-- where nothing is held, every word is 0
+pub idle : (l : List ℕ) → busy l ≡ 0 → (j : ℕ) → getD l j 0 ≡ 0
+unfolding busy
+idle [] e j = refl
+idle (x ∷ l) e zero = by-test (eqb x 0) (x ≡ 0) (λ t. eqb-true x 0 t) λ t. absurd (omega (arith, rw t at e))
+idle (x ∷ l) e (suc j) = idle l (by-test (eqb x 0) (busy l ≡ 0) (λ t. rw t at e) λ t. absurd (omega (arith, rw t at e))) j
+
 -- a store, as a change of the map
 pub tab-set : (l : List ℕ) (n : ℕ) (f : ℕ → ℕ) (i v : ℕ) → i < length l → Tab l n f → Tab (set l i v) n (upd f i v)
 tab-set l n f i v h t j b =

@@ -208,4 +208,20 @@ pub record Ready (i : ℕ) (nodes emitted last pinned slot free tops next out : 
 pub record Advanced (i : ℕ) (nodes emitted last pinned slot out : List ℕ) (count : ℕ) (slot′ free′ tops′ next′ out′ : List ℕ) (count′ : ℕ) : Type 0 where
   pub few : slotsIn slot′ tops′ ≤ suc i
   pub stands : Stands (length slot) slot′ free′ tops′ next′ (scan nodes (listed emitted last pinned) (suc i))
-  pub writes : (old : List ℕ) → length out ≡ length old → Wrote old out count (scan nodes (listed emitted last pinned) i) → Wrote old out′ count′ (scan nodes (listed emitted last pinned) (suc i))
+  pub writes : (old : List ℕ) → Wrote old out count (scan nodes (listed emitted last pinned) i) → Wrote old out′ count′ (scan nodes (listed emitted last pinned) (suc i))
+
+-- the lists before the first node
+pub record Begins (nodes emitted last pinned slot free out : List ℕ) : Type 0 where
+  pub scannable : Scannable (length slot) nodes (listed emitted last pinned)
+  pub emitted-long : length emitted ≡ length slot
+  pub last-long : length last ≡ length slot
+  pub pinned-long : length pinned ≡ length slot
+  pub free-long : length free ≡ 2 * length slot
+  pub none : busy slot ≡ 0
+  pub room : 4 * length (scan nodes (listed emitted last pinned) (length slot) .out) ≤ length out
+
+-- and after the first i
+pub record Scanned (i : ℕ) (nodes emitted last pinned old slot free tops next out : List ℕ) (count : ℕ) : Type 0 where
+  pub few : slotsIn slot tops ≤ i
+  pub stands : Stands (length slot) slot free tops next (scan nodes (listed emitted last pinned) i)
+  pub wrote : Wrote old out count (scan nodes (listed emitted last pinned) i)

@@ -4,7 +4,7 @@ ghost use Prim.Native.Nat.{_<_, _≤_, _+_, _-_, _*_};
 ghost use lib.ListN.{length, getD, set};
 ghost use lib.Seq.{sets};
 ghost use Rattle.ir.specs.Words.{Node, nodeAt};
-ghost use Rattle.lower.specs.Arrays.{ClassOk, TakeOk, Takes, PushOk, GiveOk, Gives, EncOk, WordsOk, Spelt, ReleaseOk, Released, ClaimOk, Claimed, listed, stack};
+ghost use Rattle.lower.specs.Arrays.{ClassOk, TakeOk, Takes, PushOk, GiveOk, Gives, EncOk, WordsOk, Spelt, ReleaseOk, Released, ClaimOk, Claimed, Ready, Advanced, Begins, Scanned, listed, stack};
 ghost use Rattle.lower.specs.Lower.{pick, uniformKind, encode};
 ghost use mathlib.Core.List.{[], _∷_};
 use device::blob::OPK_STEP;
@@ -250,4 +250,76 @@ fn claim(
         pools: left,
         count: count + 1,
     }
+}
+
+// Node i of the scan: its operands are encoded, then given back, then it takes its slot.
+fn step(
+    i: usize,
+    nodes: &[u32],
+    emitted: &[u32],
+    last_use: &[u32],
+    is_root: &[u32],
+    slot_of: &mut [u32],
+    free: &mut [u32],
+    out: &mut [u32],
+    place: Place,
+) -> Place
+    requires { ⌜ Ready i (now nodes) (now emitted) (now last_use) (now «is_root») (now «slot_of») (now free) (place .pools .tops) (place .pools .nexts) (now out) (place .count) ⌝ }
+    ensures { λ r. ⌜ Advanced i (now (nodes .entry)) (now (emitted .entry)) (now (last_use .entry)) (now («is_root» .entry)) (now («slot_of» .entry)) (now (out .entry)) (place .count) (now («slot_of» .exit)) (now (free .exit)) (r .pools .tops) (r .pools .nexts) (now (out .exit)) (r .count) ⌝ }
+{
+    if emitted[i] == 0 {
+        return place;
+    }
+    let w = spell(i, nodes, emitted, slot_of);
+    let count = place.count;
+    let pools = place.pools;
+    let left = release(i, nodes, last_use, is_root, slot_of, free, pools);
+    claim(
+        i,
+        nodes[4 * i + 3],
+        w,
+        slot_of,
+        free,
+        out,
+        Place { pools: left, count },
+    )
+}
+
+// All nodes. The lists of liveness say which are emitted, when a slot may be given back, and which never is.
+pub fn scan_nodes(
+    nodes: &[u32],
+    emitted: &[u32],
+    last_use: &[u32],
+    is_root: &[u32],
+    slot_of: &mut [u32],
+    free: &mut [u32],
+    out: &mut [u32],
+) -> Place
+    requires { ⌜ Begins (now nodes) (now emitted) (now last_use) (now «is_root») (now «slot_of») (now free) (now out) ⌝ }
+    ensures { λ r. ⌜ Scanned (length (now («slot_of» .entry))) (now (nodes .entry)) (now (emitted .entry)) (now (last_use .entry)) (now («is_root» .entry)) (now (out .entry)) (now («slot_of» .exit)) (now (free .exit)) (r .pools .tops) (r .pools .nexts) (now (out .exit)) (r .count) ⌝ }
+{
+    let n = slot_of.len();
+    let mut place = Place {
+        pools: Pools {
+            tops: [0, 0],
+            nexts: [0, 0],
+        },
+        count: 0,
+    };
+    let mut i: usize = 0;
+    while i < n {
+        place = step(
+            i,
+            nodes,
+            emitted,
+            last_use,
+            is_root,
+            slot_of,
+            free,
+            out,
+            place,
+        );
+        i += 1;
+    }
+    place
 }
