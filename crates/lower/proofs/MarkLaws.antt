@@ -16,7 +16,7 @@ use Rattle.laws.proofs.Tests.{clash}
 use Rattle.ir.specs.declared.program.Counts.{Counts}
 use Rattle.ir.specs.Words.{Node, nodeAt}
 use Rattle.lower.specs.Liveness.{has, operands, readsOf, lastBy}
-use Rattle.lower.specs.Arrays.{Tab, bit, Readers, NodeMarked, Rooted}
+use Rattle.lower.specs.Arrays.{Tab, bit, Readers, NodeMarked, Rooted, emitsWord, countBelow, Emits}
 
 -- a store, as a change of the map
 pub set-at : (l : List ℕ) (x v j : ℕ) → x < length l → getD (set l x v) j 0 ≡ cond (eqb j x) v (getD l j 0)
@@ -111,3 +111,55 @@ rooted-more roots k n marks marks′ h e m =
     marked false false e false = refl
     marked true false e b = clash refl e
     marked false true e b = clash e refl
+
+-- ---- which nodes are emitted
+
+module _ (tag used root : ℕ) where
+  pub emits-root : (root ≡ 0 → ⊥) → emitsWord tag used root ≡ true
+  emits-root n = rw (ne-eqb root 0 n) (both (not (eqb used 0)) (not (ltb tag 6 && not (eqb tag 2))))
+    where
+      both : (a b : Bool) → ((a || true) && (b || true)) ≡ true
+      both true true = refl
+      both true false = refl
+      both false true = refl
+      both false false = refl
+
+  pub emits-unused : root ≡ 0 → used ≡ 0 → emitsWord tag used root ≡ false
+  emits-unused r u = rw (eq-eqb root 0 r, eq-eqb used 0 u) refl
+
+  pub emits-operation : root ≡ 0 → (used ≡ 0 → ⊥) → 6 ≤ tag → emitsWord tag used root ≡ true
+  emits-operation r u h = rw (eq-eqb root 0 r, ne-eqb used 0 u, le-ltb tag 6 h) refl
+
+  pub emits-leaf : root ≡ 0 → (used ≡ 0 → ⊥) → tag < 6 → emitsWord tag used root ≡ eqb tag 2
+  emits-leaf r u h = rw (eq-eqb root 0 r, ne-eqb used 0 u, lt-ltb tag 6 h) (twice (eqb tag 2))
+    where
+      twice : (b : Bool) → (not (not b) || false) ≡ b
+      twice true = refl
+      twice false = refl
+
+module _ (nodes root old : List ℕ) where
+  pub emits-none : Emits 0 nodes root old old 0
+  unfolding countBelow
+  emits-none =
+      record { long = refl; done = λ j h. absurd (omega arith); rest = λ j h. refl; counted = refl; few = omega arith }
+
+  -- one node more
+  pub emits-more : (i count e : ℕ) (new : List ℕ) → i < length old → e ≡ bit (emitsWord (nodeAt nodes i .tag) (getD new i 0) (getD root i 0))
+      → Emits i nodes root old new count → Emits (i + 1) nodes root old (set new i e) (count + e)
+  unfolding countBelow
+  emits-more i count e new h q m =
+      let f : e ≡ bit (emitsWord (nodeAt nodes i .tag) (getD old i 0) (getD root i 0)) = rw (m .rest i (omega arith)) at q in
+      record {
+        long = length-set new i e ∙ m .long;
+        done = λ j b. set-at new i e j (omega (arith, m .long))
+            ∙ by-test (eqb j i) (cond (eqb j i) e (getD new j 0) ≡ bit (emitsWord (nodeAt nodes j .tag) (getD old j 0) (getD root j 0)))
+            (λ t. rw (t, eqb-true j i t) f)
+            λ t. rw t (m .done j (omega (arith, eqb-false j i t)));
+        rest = λ j b. set-at new i e j (omega (arith, m .long)) ∙ rw (ne-eqb j i (λ z. absurd (omega arith))) (m .rest j (omega arith));
+        counted = rw (add-one i, ← f) (ap (λ k. k + e) (m .counted));
+        few = omega (arith, m .few, bit-low (emitsWord (nodeAt nodes i .tag) (getD old i 0) (getD root i 0)), f);
+      }
+    where
+      bit-low : (b : Bool) → bit b ≤ 1
+      bit-low true = omega arith
+      bit-low false = omega arith

@@ -57,6 +57,25 @@ pub record RootsBelow (roots : List ℕ) (count n : ℕ) : Type 0 where
 abbrev pub Rooted : List ℕ → ℕ → ℕ → List ℕ → Type 0
 Rooted roots k n is-root = (length is-root ≡ n) × Tab is-root n (λ j. bit (anyBelow (λ r. eqb (getD roots r 0) j) k))
 
+-- whether a node gets a slot, by its tag and its words of use and root
+abbrev pub emitsWord : (tag used root : ℕ) → Bool
+emitsWord tag used root =
+    let r = not (eqb root 0) in
+    (not (eqb used 0) || r) && (not (ltb tag add && not (eqb tag var)) || r)
+
+-- how many of the numbers below k pass a test
+unfoldable pub countBelow : (ℕ → Bool) → ℕ → ℕ
+countBelow t zero = 0
+countBelow t (suc k) = countBelow t k + bit (t k)
+
+-- the first i words of use have become words of emission, and so many are emitted
+pub record Emits (i : ℕ) (nodes root old new : List ℕ) (count : ℕ) : Type 0 where
+  pub long : length new ≡ length old
+  pub done : (j : ℕ) → j < i → getD new j 0 ≡ bit (emitsWord (nodeAt nodes j .tag) (getD old j 0) (getD root j 0))
+  pub rest : (j : ℕ) → i ≤ j → getD new j 0 ≡ getD old j 0
+  pub counted : count ≡ countBelow (λ j. emitsWord (nodeAt nodes j .tag) (getD old j 0) (getD root j 0)) i
+  pub few : count ≤ i
+
 -- the liveness that three lists say
 abbrev pub listed : (emitted last pinned : List ℕ) → Liveness
 listed emitted last pinned =

@@ -2,9 +2,10 @@
 ghost use mathlib.Core.Path.{_≡_};
 ghost use Prim.Native.Nat.{_<_, _≤_, _*_};
 ghost use lib.ListN.{length, set};
-ghost use Rattle.lower.specs.Arrays.{OperandsBelow, NodesBelow, NodeMarked, Readers, RootsBelow, Rooted};
+ghost use Rattle.lower.specs.Arrays.{OperandsBelow, NodesBelow, NodeMarked, Readers, RootsBelow, Rooted, Emits, emitsWord, bit};
 use ir::node::OP_ADD;
 use ir::node::OP_NEG;
+use ir::node::OP_VAR;
 
 // Node i reads node j.
 fn note(i: u32, j: usize, used: &mut [u32], last_use: &mut [u32])
@@ -64,4 +65,43 @@ pub fn mark_roots(n: usize, count: usize, roots: &[u32], is_root: &mut [u32])
         pin(roots[r], is_root);
         r += 1;
     }
+}
+
+// A used node is emitted unless it is a uniform leaf and no root.
+fn emits(tag: u32, used: u32, root: u32) -> bool
+    ensures { λ r. ⌜ r ≡ emitsWord tag used root ⌝ }
+{
+    if root != 0 {
+        return true;
+    }
+    if used == 0 {
+        return false;
+    }
+    if OP_ADD <= tag {
+        return true;
+    }
+    tag == OP_VAR
+}
+
+// A truth as a word.
+fn word(b: bool) -> u32
+    ensures { λ r. ⌜ r ≡ bit b ⌝ }
+{
+    if b { 1 } else { 0 }
+}
+
+// The words of use become words of emission; says how many nodes are emitted.
+pub fn mark_emitted(nodes: &[u32], is_root: &[u32], used: &mut [u32]) -> usize
+    requires { ⌜ (4 * length (now used) ≤ length (now nodes)) × (length (now «is_root») ≡ length (now used)) ⌝ }
+    ensures { λ r. ⌜ Emits (length (now (used .entry))) (now (nodes .entry)) (now («is_root» .entry)) (now (used .entry)) (now (used .exit)) r ⌝ }
+{
+    let mut count: usize = 0;
+    let mut i: usize = 0;
+    while i < used.len() {
+        let emitted = word(emits(nodes[4 * i], used[i], is_root[i]));
+        used[i] = emitted;
+        count += emitted as usize;
+        i += 1;
+    }
+    count
 }
