@@ -1,6 +1,7 @@
 -- Laws of lowering.
 pub mod LiveLaws
 pub mod MarkLaws
+pub mod OutLaws
 pub mod PassLaws
 pub mod PoolLaws
 pub mod PutLaws

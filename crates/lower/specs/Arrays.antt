@@ -244,3 +244,16 @@ pub record Scanned (i : ℕ) (nodes emitted last pinned old slot free tops next 
   pub few : slotsIn slot tops ≤ i
   pub stands : Stands (length slot) slot free tops next (scan nodes (listed emitted last pinned) i)
   pub wrote : Wrote old out count (scan nodes (listed emitted last pinned) i)
+
+-- ---- roots
+
+-- node j has a slot
+pub record RootOk (j : ℕ) (nodes slot : List ℕ) : Type 0 where
+  pub place : j < length slot
+  pub class : ClassOk nodes j
+  pub held : (0 < getD slot j 0) × (getD slot j 0 ≤ 536870912)
+
+-- each of some roots does
+pub record RootsOk (count : ℕ) (nodes roots slot : List ℕ) : Type 0 where
+  pub long : count ≤ length roots
+  pub each : (r : ℕ) → r < count → RootOk (getD roots r 0) nodes slot

@@ -1,3 +1,4 @@
 // Lowering, after device.rs.
 pub mod liveness;
+pub mod lower;
 pub mod scan;
