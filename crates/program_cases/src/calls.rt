@@ -1,24 +1,10 @@
 // The five calls on a case, each held to the line. What is lent for writing is longer than the call needs, and what it
 // has to leave is held too.
-use super::answer::number;
-use super::answer::refusal_number;
 use super::line::Case;
 use super::line::NODE_WORDS;
 use super::line::NODES;
+use super::line::OFFSET_AT;
 use super::line::ROOTS;
-use super::line::least;
-use super::line::number_at;
-use super::line::part;
-use super::line::plus;
-use super::line::times;
-use super::seen::KEPT;
-use super::seen::KEPT_COLUMN;
-use super::seen::Seen;
-use super::seen::hold;
-use super::seen::hold_columns;
-use super::seen::hold_written;
-use super::seen::keep_all;
-use field::extensions_goldilocks::Ext;
 use interp::interp::Evaluated;
 use interp::interp::eval_program;
 use interp::interp::eval_program_base;
@@ -27,19 +13,23 @@ use ir::program::Counts;
 use ir::program::check_program;
 use ir::reads::Columns;
 use ir::reads::next_row_trace_reads;
+use sample::answer::number;
+use sample::answer::refusal_number;
+use sample::line::least;
+use sample::line::limbs_at;
+use sample::line::part;
+use sample::line::plus;
+use sample::line::times;
+use sample::seen::KEPT;
+use sample::seen::KEPT_SHORT;
+use sample::seen::Seen;
+use sample::seen::hold;
+use sample::seen::hold_shorts;
+use sample::seen::hold_written;
+use sample::seen::keep_all;
 
 // Room for three words a constraint.
 const EXT_WORDS: usize = 192;
-
-fn offset_of(line: &[u64]) -> Ext {
-    Ext {
-        limbs: [
-            number_at(line, 11),
-            number_at(line, 12),
-            number_at(line, 13),
-        ],
-    }
-}
 
 // What a call writes values of: nothing where it refuses.
 fn written(c: Counts, answer: u64) -> Counts {
@@ -68,7 +58,7 @@ fn check(line: &[u64], case: Case, nodes: &[u32], roots: &[u32], seen: Seen) -> 
 
 fn reads(line: &[u64], case: Case, nodes: &[u32], roots: &[u32], seen: Seen) -> Seen {
     let s = case.shape;
-    let mut out = [KEPT_COLUMN; NODES];
+    let mut out = [KEPT_SHORT; NODES];
     let columns = next_row_trace_reads(
         case.counts,
         s.main,
@@ -82,11 +72,11 @@ fn reads(line: &[u64], case: Case, nodes: &[u32], roots: &[u32], seen: Seen) -> 
         Columns::Listed { count } => {
             let answered = hold(line, seen, 0);
             let counted = hold(line, answered, count as u64);
-            hold_columns(line, counted, &out, count)
+            hold_shorts(line, counted, &out, count)
         }
         Columns::Refused(why) => {
             let answered = hold(line, seen, refusal_number(why));
-            hold_columns(line, answered, &out, 0)
+            hold_shorts(line, answered, &out, 0)
         }
     }
 }
@@ -98,7 +88,7 @@ fn prover(line: &[u64], case: Case, nodes: &[u32], roots: &[u32], seen: Seen) ->
     let outcome = eval_program(
         case.counts,
         case.shape,
-        offset_of(line),
+        limbs_at(line, OFFSET_AT),
         nodes,
         part(line, case.bases, case.exts),
         part(line, case.exts, case.roots),
@@ -127,7 +117,7 @@ fn verifier(line: &[u64], case: Case, nodes: &[u32], roots: &[u32], seen: Seen) 
     let outcome = eval_program_verifier(
         case.counts,
         case.shape,
-        offset_of(line),
+        limbs_at(line, OFFSET_AT),
         nodes,
         part(line, case.bases, case.exts),
         part(line, case.exts, case.roots),

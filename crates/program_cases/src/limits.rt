@@ -2,10 +2,10 @@
 // figures of document 01.
 use super::calls::hold_calls;
 use super::line::Case;
-use super::report::report;
-use super::report::say_number;
 use ir::frame::Shape;
 use ir::program::Counts;
+use sample::report::report;
+use sample::report::say_number;
 
 // Document 01's numbers, written out: the code's own constants are what is tried.
 const MOST: usize = 536870911;

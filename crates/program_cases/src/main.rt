@@ -1,33 +1,25 @@
 // Runs the calls on programs over a sample of small programs with frames, on standard input, and holds each answer and
 // each word to the numbers there. The file stdin beside this is what `cargo run --release --offline -p differential`
 // prints in rust/; the head of rust/differential/src/programs/sample.rs says what the numbers are.
-ghost use Prim.Native.Nat.{_<_};
-ghost use lib.ListN.{length};
-
-mod answer;
 mod calls;
 mod limits;
 mod line;
-mod report;
-mod seen;
-mod text;
 
 use calls::hold_calls;
-use libc::STDIN_FILENO;
 use limits::hold_limits;
 use line::NODE_WORDS;
 use line::NODES_AT;
 use line::ROOTS;
 use line::case_of;
-use line::first;
-use line::narrow;
-use line::part;
-use line::times;
-use report::report;
-use report::say;
-use report::say_number;
-use seen::Seen;
-use text::read_numbers;
+use sample::input::sample_numbers;
+use sample::line::first;
+use sample::line::line_end;
+use sample::line::narrow;
+use sample::line::part;
+use sample::line::times;
+use sample::report::report;
+use sample::report::say_number;
+use sample::seen::Seen;
 
 // The tables are lent exactly as long as the counts say.
 fn replay(line: &[u64]) -> Seen {
@@ -52,18 +44,6 @@ fn replay(line: &[u64]) -> Seen {
     )
 }
 
-// Where the line ends that starts at a place; its first number says how many follow.
-fn line_end(numbers: &[u64], at: usize) -> usize
-    requires { ⌜ at < length (now numbers) ⌝ }
-    ensures { λ r. ⌜ at < r ⌝ }
-{
-    let count = numbers[at] as usize;
-    if usize::MAX - 1 - at < count {
-        return usize::MAX;
-    }
-    at + 1 + count
-}
-
 fn replay_part(numbers: &[u64], case: u64, from: usize, to: usize) {
     let line = part(numbers, from, to);
     say_number(b"case ", case);
@@ -81,22 +61,9 @@ fn replay_all(numbers: &[u64]) {
     }
 }
 
-fn replay_text(text: &[u8]) {
-    let mut numbers = [0u64; 8192];
-    let r = read_numbers(text, &mut numbers);
-    if r.good {
-        replay_all(part(&numbers, 0, r.count));
-    } else {
-        say(b"the sample has something else than decimal numbers, or too many of them\n");
-    }
-}
-
 fn main() {
-    let mut text = io::large_buffer();
-    let length = io::read_full(STDIN_FILENO, &mut text);
-    if length == 65536 {
-        say(b"the sample is longer than this program reads\n");
-    }
-    replay_text(&text[..length]);
+    let mut numbers = [0u64; 8192];
+    let count = sample_numbers(&mut numbers);
+    replay_all(part(&numbers, 0, count));
     hold_limits();
 }

@@ -3,8 +3,8 @@
 use borrow.Author.Needs.{needs}
 use lib.Dec.{lit<}
 use native.Mathlib.Nat.{le-trans, lt-of-le-of-lt, mul-le-mul-left, mul-div-le}
-use Rattle.program_cases.proofs.line.times.Statement.{statement}
-use Rattle.program_cases.proofs.line.times.Tie as tie
+use Rattle.sample.proofs.line.times.Statement.{statement}
+use Rattle.sample.proofs.line.times.Tie as tie
 
 returns : tie.Need-returns
 returns c = search needs

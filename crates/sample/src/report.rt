@@ -35,6 +35,13 @@ pub fn report(line: &[u64], seen: Seen) {
             );
             say(b"\n");
         }
+        Seen::Uncleared { at } => {
+            say_number(
+                b": a word is not 0 that has to be, before number ",
+                at as u64,
+            );
+            say(b"\n");
+        }
         Seen::Cut => say(b" is shorter than its counts say\n"),
         Seen::NoRoom => say(b" needs more room than this program has\n"),
     }

@@ -5,8 +5,8 @@ use lib.ListN.{length, length-set}
 use native.Mathlib.Omega.{arith}
 use Prim.Native.Nat.{_≤_, _-_}
 use mathlib.Core.Path.{_≡_}
-use Rattle.program_cases.proofs.line.narrow.Statement.{statement}
-use Rattle.program_cases.proofs.line.narrow.Tie as tie
+use Rattle.sample.proofs.line.narrow.Statement.{statement}
+use Rattle.sample.proofs.line.narrow.Tie as tie
 
 abbrev Inv-loop : tie.InvT-loop
 Inv-loop words room₀ i₀ room i = (length words ≤ length room) × (length room ≡ length room₀)

@@ -6,8 +6,8 @@ use lib.ListN.{length}
 use native.Mathlib.Omega.{arith}
 use Prim.Native.Nat.{_-_}
 use mathlib.Core.Path.{_≡_, refl, _∙_}
-use Rattle.program_cases.proofs.text.read_numbers.Statement.{statement}
-use Rattle.program_cases.proofs.text.read_numbers.Tie as tie
+use Rattle.sample.proofs.text.read_numbers.Statement.{statement}
+use Rattle.sample.proofs.text.read_numbers.Tie as tie
 
 abbrev Inv-loop : tie.InvT-loop
 Inv-loop text numbers₀ r₀ i₀ numbers r i = length numbers ≡ length numbers₀

@@ -4,8 +4,8 @@ use native.Mathlib.Omega.{arith}
 use borrow.Author.Needs.{needs}
 use lib.ListN.{length}
 use Prim.Native.Nat.{_-_}
-use Rattle.program_cases.proofs.seen.keep_all.Statement.{statement}
-use Rattle.program_cases.proofs.seen.keep_all.Tie as tie
+use Rattle.sample.proofs.seen.keep_all.Statement.{statement}
+use Rattle.sample.proofs.seen.keep_all.Tie as tie
 
 abbrev Inv-loop : tie.InvT-loop
 Inv-loop words so-far₀ i₀ so-far i = Unit {0}
