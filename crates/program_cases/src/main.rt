@@ -1,6 +1,7 @@
 // Runs the calls on programs over a sample of small programs with frames, on standard input, and holds each answer and
-// each word to the numbers there. The file stdin beside this is what `cargo run --release --offline -p differential`
-// prints in rust/; the head of rust/differential/src/programs/sample.rs says what the numbers are.
+// each word to the numbers there. The file stdin beside this is what
+// `cargo run --release --offline -p differential --bin program_sample` prints in rust/; the head of
+// rust/differential/src/programs/sample.rs says what the numbers are.
 mod calls;
 mod limits;
 mod line;

@@ -1,5 +1,5 @@
 // A line of numbers, and its parts.
-ghost use Prim.Native.Nat.{_<_};
+ghost use Prim.Native.Nat.{_<_, _≤_};
 ghost use lib.ListN.{length};
 use field::extensions_goldilocks::Ext;
 use ir::frame::Shape;
@@ -23,7 +23,9 @@ pub fn times(a: usize, b: usize) -> usize {
     a * b
 }
 
-pub fn least(a: usize, b: usize) -> usize {
+pub fn least(a: usize, b: usize) -> usize
+    ensures { λ r. ⌜ r ≤ b ⌝ }
+{
     if a < b { a } else { b }
 }
 

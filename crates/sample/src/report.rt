@@ -44,5 +44,6 @@ pub fn report(line: &[u64], seen: Seen) {
         }
         Seen::Cut => say(b" is shorter than its counts say\n"),
         Seen::NoRoom => say(b" needs more room than this program has\n"),
+        Seen::UnknownKind => say(b" is of a kind that this program does not replay\n"),
     }
 }

@@ -14,6 +14,8 @@ pub enum Seen {
     Cut,
     // The line needs more room than this program has, or a word of 32 bits is none.
     NoRoom,
+    // The line is of a kind that this program does not replay.
+    UnknownKind,
 }
 
 // What a word that a call may write holds beforehand. No call writes it, since it is above p.

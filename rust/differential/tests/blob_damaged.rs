@@ -7,6 +7,7 @@ use std::fmt::Arguments;
 
 use differential::blobs::agree::agree;
 use differential::blobs::damage::{BIT_31, SHAPE, change_some, hostile_words, set, small_blobs};
+use differential::blobs::lease::{Lease, NEEDS};
 use differential::blobs::{BlobWords, Lengths, compare};
 use differential::inputs::Random;
 use differential::programs::{Cells, PROVER};
@@ -226,53 +227,16 @@ fn cut_tables() {
     let mut score = Score::new("cut tables");
     let mut count = 0;
     for (i, (words, cells)) in small_blobs(&mut random, many(200), 12).iter().enumerate() {
-        let lengths = Lengths::of(&words.counts);
-        let mut run = |words: &BlobWords, cells: &Cells, lengths: Lengths, what: Arguments<'_>| {
-            _ = compare::check_blob(&mut score, words, &cells.shape, lengths.bytes, what);
-            compare::walk(&mut score, words, cells, lengths, what);
-            count += 1;
-        };
-        for table in 0..8 {
-            let len = [
-                words.nodes.len(),
-                words.roots.len(),
-                words.base_consts.len(),
-                words.ext_consts.len(),
-                cells.main.len(),
-                cells.aux.len(),
-                cells.challenges.len(),
-                cells.alphas.len(),
-            ][table];
-            for cut in 0..len {
-                let (mut words, mut cells) = (words.clone(), cells.clone());
-                match table {
-                    0 => words.nodes.truncate(cut),
-                    1 => words.roots.truncate(cut),
-                    2 => words.base_consts.truncate(cut),
-                    3 => words.ext_consts.truncate(cut),
-                    4 => cells.main.truncate(cut),
-                    5 => cells.aux.truncate(cut),
-                    6 => cells.challenges.truncate(cut),
-                    _ => cells.alphas.truncate(cut),
-                }
-                run(
-                    &words,
-                    &cells,
-                    lengths,
-                    format_args!("blob {i} of seed {SEED:#x}, table {table} cut to {cut}"),
+        let lease = Lease::new(words.clone(), cells.clone());
+        for (need, name) in NEEDS.iter().enumerate() {
+            for len in 0..lease.len(need) {
+                let mut lease = lease.clone();
+                lease.cut(need, len);
+                _ = lease.run(
+                    &mut score,
+                    format_args!("blob {i} of seed {SEED:#x}, {name} cut to {len}"),
                 );
-            }
-        }
-        for room in 0..4 {
-            let mut cut = lengths;
-            while *cut.fields_mut()[room] != 0 {
-                *cut.fields_mut()[room] -= 1;
-                run(
-                    words,
-                    cells,
-                    cut,
-                    format_args!("blob {i} of seed {SEED:#x}, room {room}, {cut:?}"),
-                );
+                count += 1;
             }
         }
     }

@@ -8,7 +8,8 @@
 
 use differential::blobs::agree::agree;
 use differential::blobs::damage::{BIT_31, SHAPE, every_tag, small_blobs};
-use differential::blobs::{BlobWords, Lengths, compare};
+use differential::blobs::lease::{Lease, NEEDS, OF_CHECK, OF_WALK};
+use differential::blobs::{BlobWords, Lengths};
 use differential::inputs::Random;
 use differential::programs::compare::Answer;
 use differential::programs::{Cells, PROVER};
@@ -19,89 +20,6 @@ use host::program::Shape;
 
 fn refusal(number: u8, place: u64) -> Answer {
     Err(Refusal { number, place })
-}
-
-/// All that the two calls are lent.
-#[derive(Clone)]
-struct Lease {
-    words: BlobWords,
-    cells: Cells,
-    lengths: Lengths,
-}
-
-/// What the check is lent stands first.
-const NEEDS: [&str; 12] = [
-    "nodes",
-    "roots",
-    "bytes",
-    "base_consts",
-    "ext_consts",
-    "main",
-    "aux",
-    "challenges",
-    "alphas",
-    "slots",
-    "base_evals",
-    "ext_evals",
-];
-const OF_CHECK: usize = 3;
-const OF_WALK: usize = 10;
-
-impl Lease {
-    fn new(words: BlobWords, cells: Cells) -> Self {
-        Lease {
-            lengths: Lengths::of(&words.counts),
-            words,
-            cells,
-        }
-    }
-
-    fn len(&self, need: usize) -> usize {
-        let Lease { words, cells, lengths } = self;
-        [
-            words.nodes.len(),
-            words.roots.len(),
-            lengths.bytes,
-            words.base_consts.len(),
-            words.ext_consts.len(),
-            cells.main.len(),
-            cells.aux.len(),
-            cells.challenges.len(),
-            cells.alphas.len(),
-            lengths.slots,
-            lengths.base_evals,
-            lengths.ext_evals,
-        ][need]
-    }
-
-    fn cut(&mut self, need: usize, len: usize) {
-        let Lease { words, cells, lengths } = self;
-        match need {
-            0 => words.nodes.truncate(len),
-            1 => words.roots.truncate(len),
-            2 => lengths.bytes = len,
-            3 => words.base_consts.truncate(len),
-            4 => words.ext_consts.truncate(len),
-            5 => cells.main.truncate(len),
-            6 => cells.aux.truncate(len),
-            7 => cells.challenges.truncate(len),
-            8 => cells.alphas.truncate(len),
-            9 => lengths.slots = len,
-            10 => lengths.base_evals = len,
-            _ => lengths.ext_evals = len,
-        }
-    }
-
-    /// What the check and the walk answer.
-    #[track_caller]
-    fn run(&self, score: &mut Score, what: &str) -> [Answer; 2] {
-        let Lease { words, cells, lengths } = self;
-        let what = format_args!("{what}");
-        [
-            compare::check_blob(score, words, &cells.shape, lengths.bytes, what),
-            compare::walk(score, words, cells, *lengths, what).answer,
-        ]
-    }
 }
 
 fn every_tag_lease() -> Lease {
@@ -121,7 +39,7 @@ fn every_need() {
             .map(|(words, cells)| Lease::new(words, cells)),
     );
     for lease in leases {
-        assert_eq!(lease.run(&mut score, "exact"), [Ok(()); 2]);
+        assert_eq!(lease.run(&mut score, format_args!("exact")), [Ok(()); 2]);
         for (need, name) in NEEDS.iter().enumerate() {
             let len = lease.len(need);
             for cut in [len.wrapping_sub(1), len / 2, 0] {
@@ -132,7 +50,7 @@ fn every_need() {
                 lease.cut(need, cut);
                 let walk = refusal(if need < OF_WALK { 1 } else { 14 }, 0);
                 let check = if need < OF_CHECK { walk } else { Ok(()) };
-                let answers = lease.run(&mut score, &format!("{name} cut from {len} to {cut}"));
+                let answers = lease.run(&mut score, format_args!("{name} cut from {len} to {cut}"));
                 assert_eq!(answers, [check, walk], "{name} cut from {len} to {cut}");
             }
         }
@@ -149,15 +67,21 @@ fn needless_evals() {
     lease.words.counts.num_base = 0;
     lease.lengths = Lengths::of(&lease.words.counts);
     assert_eq!((lease.lengths.base_evals, lease.lengths.ext_evals), (0, 18));
-    assert_eq!(lease.run(&mut score, "num_base 0"), [Ok(()); 2]);
+    assert_eq!(lease.run(&mut score, format_args!("num_base 0")), [Ok(()); 2]);
     lease.words.counts.roots = 3;
     for num_base in [3, 4, u32::MAX] {
         lease.words.counts.num_base = num_base;
         lease.lengths = Lengths::of(&lease.words.counts);
         assert_eq!((lease.lengths.base_evals, lease.lengths.ext_evals), (3, 0));
-        assert_eq!(lease.run(&mut score, "num_base past the roots"), [Ok(()); 2]);
+        assert_eq!(
+            lease.run(&mut score, format_args!("num_base past the roots")),
+            [Ok(()); 2]
+        );
         lease.lengths.base_evals = 2;
-        assert_eq!(lease.run(&mut score, "one word short"), [Ok(()), refusal(14, 0)]);
+        assert_eq!(
+            lease.run(&mut score, format_args!("one word short")),
+            [Ok(()), refusal(14, 0)]
+        );
     }
     score.finish(&[0, 14]);
 }
@@ -233,7 +157,7 @@ fn every_set_in_its_order() {
                             (None, None, None) => last,
                         };
                         let what = format!("{over:?}, {short:?}, {evals:?}, {illegal:?}, {ext_root}");
-                        assert_eq!(lease.run(&mut score, &what), [check, walk], "{what}");
+                        assert_eq!(lease.run(&mut score, format_args!("{what}")), [check, walk], "{what}");
                         sets += 1;
                     }
                 }
@@ -285,7 +209,7 @@ fn shapes_at_their_limits() {
                     [Ok(()), if needs_words { refusal(1, 0) } else { Ok(()) }]
                 };
                 let what = format!("field {field} is {value}, the others {others}");
-                assert_eq!(lease.run(&mut score, &what), [check, walk], "{what}");
+                assert_eq!(lease.run(&mut score, format_args!("{what}")), [check, walk], "{what}");
                 if !over {
                     // With memory: the last column, step, challenge or alpha power is there.
                     let leaf = [
@@ -327,7 +251,7 @@ fn largest_counts() {
                 _ => [refusal(1, 0); 2],
             };
             assert_eq!(
-                lease.run(&mut score, "large"),
+                lease.run(&mut score, format_args!("large")),
                 [check, walk],
                 "count {count} is {large}"
             );
@@ -337,7 +261,7 @@ fn largest_counts() {
         for count in lease.words.counts_mut() {
             *count = large;
         }
-        assert_eq!(lease.run(&mut score, "all large"), [refusal(1, 0); 2]);
+        assert_eq!(lease.run(&mut score, format_args!("all large")), [refusal(1, 0); 2]);
     }
     score.finish(&[0, 1, 12, 14]);
 }

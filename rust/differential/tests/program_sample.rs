@@ -4,66 +4,22 @@
 #![forbid(unsafe_code)]
 
 use std::collections::BTreeSet;
-use std::vec::IntoIter;
 
 use differential::Score;
 use differential::inputs::Random;
+use differential::lines::{Numbers, file_has};
 use differential::programs::agree::{Case, agree};
-use differential::programs::compare::Answer;
-use differential::programs::sample::{cases, line};
+use differential::programs::sample::{cases, lines};
 use differential::programs::{Cells, Words, published};
-use host::program::{self, Counts, Shape};
-
-/// Takes the numbers of a line one after the other.
-struct Numbers {
-    rest: IntoIter<u64>,
-}
-
-impl Numbers {
-    fn one(&mut self) -> u64 {
-        self.rest.next().expect("the line is long enough")
-    }
-
-    fn count(&mut self) -> usize {
-        self.one() as usize
-    }
-
-    fn words(&mut self, count: usize) -> Vec<u64> {
-        (0..count).map(|_| self.one()).collect()
-    }
-
-    fn short_words(&mut self, count: usize) -> Vec<u32> {
-        (0..count)
-            .map(|_| u32::try_from(self.one()).expect("a word of 32 bits"))
-            .collect()
-    }
-
-    /// Holds an answer to the line's, and says whether values follow.
-    #[track_caller]
-    fn answer(&mut self, answer: Answer, answered: &mut BTreeSet<u64>, what: &str) -> bool {
-        let number = answer.map_or_else(|refusal| u64::from(refusal.number) + 256 * refusal.place, |()| 0);
-        assert_eq!(number, self.one(), "{what}");
-        answered.insert(number % 256);
-        answer.is_ok()
-    }
-}
+use host::program::{self, Counts};
 
 #[test]
 fn host_gives_the_sample() {
-    let lines: Vec<String> = cases().iter().map(line).collect();
+    let lines = lines();
     let mut answered = BTreeSet::new();
     for (at, line) in lines.iter().enumerate() {
         let what = &format!("case {at}: {line}");
-        let mut all = line
-            .split(' ')
-            .map(|number| number.parse::<u64>().expect("a decimal number"));
-        let following = all.next().expect("no line is empty") as usize;
-        let numbers: Vec<u64> = all.collect();
-        assert_eq!(numbers.len(), following, "{what}");
-        let mut numbers = Numbers {
-            rest: numbers.into_iter(),
-        };
-
+        let mut numbers = Numbers::of(line);
         let counts = Counts {
             nodes: numbers.count(),
             base_consts: numbers.count(),
@@ -71,14 +27,8 @@ fn host_gives_the_sample() {
             roots: numbers.count(),
             num_base: numbers.count(),
         };
-        let shape = Shape {
-            steps: numbers.count(),
-            main_width: numbers.count(),
-            aux_width: numbers.count(),
-            challenges: numbers.count(),
-            alphas: numbers.count(),
-        };
-        let table_offset = [numbers.one(), numbers.one(), numbers.one()];
+        let shape = numbers.shape();
+        let table_offset = numbers.limbs();
         let words = Words {
             counts,
             nodes: numbers.short_words(4 * counts.nodes),
@@ -135,7 +85,7 @@ fn host_gives_the_sample() {
                 assert_eq!(value, Ok(numbers.one()), "{what}");
             }
         }
-        assert_eq!(numbers.rest.len(), 0, "the line ends here, {what}");
+        numbers.end(what);
     }
     println!("the sample: {} cases with answers {answered:?}", lines.len());
     assert_eq!(answered, BTreeSet::from([0, 7, 12, 13]));
@@ -144,12 +94,11 @@ fn host_gives_the_sample() {
 /// The Rattle program that replays the sample has it in a file of its own.
 #[test]
 fn program_cases_has_the_sample() {
-    let kept = include_str!("../../../crates/program_cases/stdin");
-    let printed: String = cases().iter().map(|case| line(case) + "\n").collect();
-    assert!(
-        kept == printed,
-        "crates/program_cases/stdin is not the sample: write what `cargo run --release --offline -p differential` prints to it"
+    let (file, kept) = (
+        "crates/program_cases/stdin",
+        include_str!("../../../crates/program_cases/stdin"),
     );
+    file_has(file, kept, &lines(), "program_sample");
 }
 
 /// The answers in the sample are those of plain arithmetic; here the published Rust confirms those that are values.

@@ -2,10 +2,10 @@
 
 #![forbid(unsafe_code)]
 
-use differential::programs::sample::{cases, line};
+use differential::programs::sample::lines;
 
 fn main() {
-    for case in cases() {
-        println!("{}", line(&case));
+    for line in lines() {
+        println!("{line}");
     }
 }

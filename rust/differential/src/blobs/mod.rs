@@ -3,7 +3,9 @@
 pub mod agree;
 pub mod compare;
 pub mod damage;
+pub mod lease;
 pub mod published;
+pub mod sample;
 
 use host::blob::{Blob, BlobCounts};
 
@@ -108,16 +110,6 @@ impl Lengths {
             bytes: counts.bytes(),
             slots: counts.slot_words(),
         }
-    }
-
-    /// The four of them: base evals, extension evals, bytes, slots.
-    pub fn fields_mut(&mut self) -> [&mut usize; 4] {
-        [
-            &mut self.base_evals,
-            &mut self.ext_evals,
-            &mut self.bytes,
-            &mut self.slots,
-        ]
     }
 
     /// A few more of each.

@@ -1,7 +1,7 @@
 //! A fixed sample of small programs with frames and the answers that they have to get, as lines of numbers: for the
-//! Rattle program `program_cases`, which cannot call the published Rust and reads them from its file `stdin`.
+//! Rattle program `program_cases`, which reads them from its file `stdin`. [`crate::lines`] says what a line is.
 //!
-//! One line is one case. Its numbers are decimal and one space apart; each fits 64 bits. In this order:
+//! The numbers of a line, in this order:
 //!
 //! 1. how many numbers follow on the line;
 //! 2. the counts n, B, X, R and num_base;
@@ -20,17 +20,18 @@
 //! 12. the base evaluator on the first step's main cells, once for each constraint: the answer and, if it is 0, the
 //!     value. Without steps there are no cells, and the width is 0.
 //!
-//! An answer is its number plus 256 times its place. All memory is lent exactly as long as it has to be, and enough for
+//! All memory is lent exactly as long as it has to be, and enough for
 //! every answer, so no answer is 1, 10 or 14.
 
 use host::program::{Counts, Shape};
 use stark::constraint_ir::{Expr, IrBuilder};
 use stark::program_e;
 
-use super::compare::{Answer, Lengths};
+use super::compare::Lengths;
 use super::published::{self, ext_element};
 use super::{Cells, PROVER, VERIFIER, Words, foreign};
 use crate::inputs::Random;
+use crate::lines::Line;
 use crate::plain::program as plain;
 use crate::{Limbs, P};
 
@@ -295,44 +296,28 @@ pub fn cases() -> Vec<Sampled> {
     cases
 }
 
-/// The number of an answer, and whether it is 0.
-fn push_answer(numbers: &mut Vec<u64>, answer: Answer) -> bool {
-    match answer {
-        Ok(()) => numbers.push(0),
-        Err(refusal) => numbers.push(u64::from(refusal.number) + 256 * refusal.place),
-    }
-    answer.is_ok()
-}
-
 /// A case as its line, with the answers of plain arithmetic.
-pub fn line(case: &Sampled) -> String {
+fn line(case: &Sampled) -> String {
     let Sampled {
         words,
         prover,
         verifier,
     } = case;
-    let (counts, shape) = (&words.counts, &prover.shape);
-    let mut numbers: Vec<u64> = Vec::new();
-    numbers.extend(
-        [
-            counts.nodes,
-            counts.base_consts,
-            counts.ext_consts,
-            counts.roots,
-            counts.num_base,
-            shape.steps,
-            shape.main_width,
-            shape.aux_width,
-            shape.challenges,
-            shape.alphas,
-        ]
-        .map(|count| count as u64),
-    );
-    numbers.extend(prover.table_offset);
-    numbers.extend(words.nodes.iter().map(|word| u64::from(*word)));
-    numbers.extend(&words.base_consts);
-    numbers.extend(&words.ext_consts);
-    numbers.extend(words.roots.iter().map(|word| u64::from(*word)));
+    let counts = &words.counts;
+    let mut line = Line::default();
+    line.counts(&[
+        counts.nodes,
+        counts.base_consts,
+        counts.ext_consts,
+        counts.roots,
+        counts.num_base,
+    ]);
+    line.shape(&prover.shape);
+    line.words(&prover.table_offset);
+    line.short_words(&words.nodes);
+    line.words(&words.base_consts);
+    line.words(&words.ext_consts);
+    line.short_words(&words.roots);
     for table in [
         &prover.main,
         &prover.aux,
@@ -340,56 +325,51 @@ pub fn line(case: &Sampled) -> String {
         &prover.alphas,
         &verifier.main,
     ] {
-        numbers.extend(table);
+        line.words(table);
     }
+    answers(&mut line, case);
+    line.finish()
+}
 
-    push_answer(&mut numbers, plain::check_program(&words.lend()));
+/// The answers of the five calls, in the line's order, each with its values.
+fn answers(line: &mut Line, case: &Sampled) {
+    let (program, counts) = (case.words.lend(), &case.words.counts);
+    line.answer(plain::check_program(&program));
 
     let (mut out, mut count) = (vec![0; counts.nodes], 0);
-    if push_answer(
-        &mut numbers,
-        plain::next_row_trace_reads(&words.lend(), shape.main_width, &mut out, &mut count),
-    ) {
-        numbers.push(count);
-        numbers.extend(out[..count as usize].iter().map(|column| u64::from(*column)));
+    let width = case.prover.shape.main_width;
+    if line.answer(plain::next_row_trace_reads(&program, width, &mut out, &mut count)) {
+        line.words(&[count]);
+        line.short_words(&out[..count as usize]);
     }
 
-    let lengths = Lengths::prover(words);
-    let mut base_evals = vec![0; lengths.base_evals];
-    let mut ext_evals = vec![0; lengths.ext_evals];
+    let lengths = Lengths::prover(&case.words);
+    let (mut base, mut ext) = (vec![0; lengths.base_evals], vec![0; lengths.ext_evals]);
     let mut room = vec![0; lengths.room];
-    let program = words.lend();
-    if push_answer(
-        &mut numbers,
-        plain::eval_program(&program, &prover.lend(), &mut base_evals, &mut ext_evals, &mut room),
-    ) {
-        numbers.extend(&base_evals);
-        numbers.extend(ext_evals.iter().skip(3 * counts.num_base));
+    let frame = case.prover.lend();
+    if line.answer(plain::eval_program(&program, &frame, &mut base, &mut ext, &mut room)) {
+        line.evals(counts.num_base, counts.roots, &base, &ext);
     }
 
-    let mut ext_evals = vec![0; 3 * counts.roots];
-    if push_answer(
-        &mut numbers,
-        plain::eval_program_verifier(&program, &verifier.lend(), &mut ext_evals, &mut room),
-    ) {
-        numbers.extend(&ext_evals);
+    let mut ext = vec![0; 3 * counts.roots];
+    let frame = case.verifier.lend();
+    if line.answer(plain::eval_program_verifier(&program, &frame, &mut ext, &mut room)) {
+        line.words(&ext);
     }
 
     let width = case.row_width();
+    let row = &case.prover.main[..width];
     for constraint in 0..counts.roots {
         let mut value = 0;
-        let row = &prover.main[..width];
-        if push_answer(
-            &mut numbers,
-            plain::eval_program_base(&program, width, constraint, row, &mut room, &mut value),
-        ) {
-            numbers.push(value);
+        if line.answer(plain::eval_program_base(
+            &program, width, constraint, row, &mut room, &mut value,
+        )) {
+            line.words(&[value]);
         }
     }
+}
 
-    let mut line = numbers.len().to_string();
-    for number in numbers {
-        line += &format!(" {number}");
-    }
-    line
+/// The sample.
+pub fn lines() -> Vec<String> {
+    cases().iter().map(line).collect()
 }
