@@ -6,14 +6,11 @@
 use std::collections::BTreeSet;
 use std::vec::IntoIter;
 
+use host::Refusal;
 use host::program::Shape;
 
 use crate::Limbs;
 use crate::programs::compare::Answer;
-
-fn number_of(answer: Answer) -> u64 {
-    answer.map_or_else(|refusal| u64::from(refusal.number) + 256 * refusal.place, |()| 0)
-}
 
 /// A line in the making.
 #[derive(Default)]
@@ -47,7 +44,10 @@ impl Line {
 
     /// Says whether it is 0, so that values follow.
     pub fn answer(&mut self, answer: Answer) -> bool {
-        self.numbers.push(number_of(answer));
+        self.numbers.push(match answer {
+            Ok(()) => 0,
+            Err(refusal) => u64::from(refusal.number) + 256 * refusal.place,
+        });
         answer.is_ok()
     }
 
@@ -131,11 +131,17 @@ impl Numbers {
 
     /// Holds an answer to the line's, and says whether values follow.
     #[track_caller]
-    pub fn answer(&mut self, answer: Answer, answered: &mut BTreeSet<u64>, what: &str) -> bool {
-        let number = number_of(answer);
-        assert_eq!(number, self.one(), "{what}");
-        answered.insert(number % 256);
-        answer.is_ok()
+    pub fn answer(&mut self, answer: Answer, answered: &mut BTreeSet<u8>, what: &str) -> bool {
+        let said = self.one();
+        let (number, place) = ((said % 256) as u8, said / 256);
+        let expected = if said == 0 {
+            Ok(())
+        } else {
+            Err(Refusal { number, place })
+        };
+        assert_eq!(answer, expected, "{what}");
+        answered.insert(number);
+        said == 0
     }
 
     #[track_caller]
