@@ -15,8 +15,9 @@ use Rattle.laws.proofs.Cases.{by-test}
 use Rattle.laws.proofs.Tests.{clash}
 use Rattle.ir.specs.declared.program.Counts.{Counts}
 use Rattle.ir.specs.Words.{Node, nodeAt}
-use Rattle.lower.specs.Liveness.{has, operands, readsOf, lastBy}
-use Rattle.lower.specs.Arrays.{Tab, bit, Readers, NodeMarked, Rooted, emitsWord, countBelow, Emits}
+use Rattle.lower.specs.Liveness.{has, operands, isUniform, readsOf, lastBy, isRoot, isUsed, live}
+use Rattle.lower.specs.Arrays.{Tab, bit, Readers, NodeMarked, Rooted, emitsWord, countBelow, busy, Emits, LiveOk, Alive}
+use Rattle.lower.proofs.PoolLaws.{idle}
 
 -- a store, as a change of the map
 pub set-at : (l : List ℕ) (x v j : ℕ) → x < length l → getD (set l x v) j 0 ≡ cond (eqb j x) v (getD l j 0)
@@ -163,3 +164,47 @@ module _ (nodes root old : List ℕ) where
       bit-low : (b : Bool) → bit b ≤ 1
       bit-low true = omega arith
       bit-low false = omega arith
+
+-- ---- the whole pass
+
+true-bit : (b : Bool) → not (eqb (bit b) 0) ≡ b
+true-bit true = refl
+true-bit false = refl
+
+count-same : (t u : ℕ → Bool) (k : ℕ) → ((j : ℕ) → j < k → t j ≡ u j) → countBelow t k ≡ countBelow u k
+unfolding countBelow
+count-same t u zero h = refl
+count-same t u (suc k) h = rw (count-same t u k (λ j b. h j (omega arith)), h k (omega arith)) refl
+
+module _ (c : Counts) (nodes roots used₀ last₀ pinned₀ : List ℕ) (g : LiveOk c nodes roots used₀ last₀ pinned₀) where
+  pub readers-none : Readers nodes 0 (c .nodes) used₀ last₀
+  unfolding anyBelow lastBy
+  readers-none =
+      record {
+        used-long = g .long .0;
+        last-long = g .long .1;
+        reads = λ j h. idle used₀ (g .clear .0) j;
+        lasts = λ j h. idle last₀ (g .clear .1) j;
+      }
+
+  pub rooted-none : Rooted roots 0 (c .nodes) pinned₀
+  unfolding anyBelow
+  rooted-none = (g .long .2, λ j h. idle pinned₀ (g .clear .2) j)
+
+  pub alive : (used used′ last pinned : List ℕ) (count : ℕ) → Readers nodes (c .nodes) (c .nodes) used last → Rooted roots (c .roots) (c .nodes) pinned
+      → Emits (length used) nodes pinned used used′ count → Alive c nodes roots used′ last pinned count
+  unfolding isUsed isRoot
+  alive used used′ last pinned count r m e =
+      let n = c .nodes in
+      let same : (j : ℕ) → j < n → emitsWord (nodeAt nodes j .tag) (getD used j 0) (getD pinned j 0) ≡ live c nodes roots .emitted j =
+      λ j h. rw (r .reads j h, m .1 j h, true-bit (anyBelow (readsOf nodes j) n), true-bit (anyBelow (λ i. eqb (getD roots i 0) j) (c .roots))) refl
+      in
+      let f = e .counted in
+      record {
+        long = (e .long ∙ r .used-long, r .last-long, m .0);
+        emits = λ j h. e .done j (omega (arith, r .used-long)) ∙ ap bit (same j h);
+        lasts = r .lasts;
+        pins = m .1;
+        counted = f ∙ ap (countBelow (λ j. emitsWord (nodeAt nodes j .tag) (getD used j 0) (getD pinned j 0))) (r .used-long) ∙ count-same _ (live c nodes roots .emitted) n same;
+        few = omega (arith, e .few, r .used-long);
+      }

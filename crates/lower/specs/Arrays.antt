@@ -11,7 +11,7 @@ use Rattle.laws.specs.Folds.{anyBelow}
 use Rattle.ir.specs.declared.program.Counts.{Counts}
 use Rattle.ir.specs.Words.{Node, nodeAt, var, add, neg}
 use Rattle.device.specs.Blob.{Instr}
-use Rattle.lower.specs.Liveness.{has, operands, isUniform, readsOf, isRoot, lastBy, Liveness}
+use Rattle.lower.specs.Liveness.{has, operands, isUniform, readsOf, isRoot, lastBy, Liveness, live}
 use Rattle.lower.specs.Lower.{Scan, pick, left, more, slotWord, encode, written, give, giveAll, claim, scan, flat}
 
 -- the first n words of a list are the map's
@@ -23,6 +23,11 @@ abbrev pub bit : Bool → ℕ
 bit b = cond b 1 0
 
 -- ---- liveness
+
+-- how many words of a list are not 0
+unfoldable pub busy : List ℕ → ℕ
+busy [] = 0
+busy (x ∷ l) = cond (eqb x 0) (busy l) (suc (busy l))
 
 -- what is known after the first k nodes: whether one of them reads node j, and the last that does
 pub record Readers (nodes : List ℕ) (k n : ℕ) (used last : List ℕ) : Type 0 where
@@ -76,6 +81,23 @@ pub record Emits (i : ℕ) (nodes root old new : List ℕ) (count : ℕ) : Type 
   pub counted : count ≡ countBelow (λ j. emitsWord (nodeAt nodes j .tag) (getD old j 0) (getD root j 0)) i
   pub few : count ≤ i
 
+-- a program whose liveness can be marked on lists of 0
+pub record LiveOk (c : Counts) (nodes roots used last pinned : List ℕ) : Type 0 where
+  pub few : c .nodes < 536870912
+  pub nodes-ok : NodesBelow nodes (c .nodes)
+  pub roots-ok : RootsBelow roots (c .roots) (c .nodes)
+  pub long : (length used ≡ c .nodes) × (length last ≡ c .nodes) × (length pinned ≡ c .nodes)
+  pub clear : (busy used ≡ 0) × (busy last ≡ 0) × (busy pinned ≡ 0)
+
+-- the lists stand for document 01's liveness
+pub record Alive (c : Counts) (nodes roots emitted last pinned : List ℕ) (count : ℕ) : Type 0 where
+  pub long : (length emitted ≡ c .nodes) × (length last ≡ c .nodes) × (length pinned ≡ c .nodes)
+  pub emits : Tab emitted (c .nodes) (λ j. bit (live c nodes roots .emitted j))
+  pub lasts : Tab last (c .nodes) (lastBy nodes (c .nodes))
+  pub pins : Tab pinned (c .nodes) (λ j. bit (isRoot c roots j))
+  pub counted : count ≡ countBelow (live c nodes roots .emitted) (c .nodes)
+  pub few : count ≤ c .nodes
+
 -- the liveness that three lists say
 abbrev pub listed : (emitted last pinned : List ℕ) → Liveness
 listed emitted last pinned =
@@ -91,11 +113,6 @@ listed emitted last pinned =
 unfoldable pub stack : List ℕ → ℕ → ℕ → List ℕ
 stack l c zero = []
 stack l c (suc k) = getD l (2 * k + c) 0 ∷ stack l c k
-
--- how many words of a list are not 0
-unfoldable pub busy : List ℕ → ℕ
-busy [] = 0
-busy (x ∷ l) = cond (eqb x 0) (busy l) (suc (busy l))
 
 -- the slots that are held or free
 abbrev pub slotsIn : (slot tops : List ℕ) → ℕ

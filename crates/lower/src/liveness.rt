@@ -2,10 +2,11 @@
 ghost use mathlib.Core.Path.{_≡_};
 ghost use Prim.Native.Nat.{_<_, _≤_, _*_};
 ghost use lib.ListN.{length, set};
-ghost use Rattle.lower.specs.Arrays.{OperandsBelow, NodesBelow, NodeMarked, Readers, RootsBelow, Rooted, Emits, emitsWord, bit};
+ghost use Rattle.lower.specs.Arrays.{OperandsBelow, NodesBelow, NodeMarked, Readers, RootsBelow, Rooted, Emits, emitsWord, bit, LiveOk, Alive};
 use ir::node::OP_ADD;
 use ir::node::OP_NEG;
 use ir::node::OP_VAR;
+use ir::program::Counts;
 
 // Node i reads node j.
 fn note(i: u32, j: usize, used: &mut [u32], last_use: &mut [u32])
@@ -104,4 +105,22 @@ pub fn mark_emitted(nodes: &[u32], is_root: &[u32], used: &mut [u32]) -> usize
         i += 1;
     }
     count
+}
+
+// The liveness pass over lists of 0: which nodes are emitted, who reads each last, which are roots. Says how many are
+// emitted.
+pub fn mark_live(
+    c: Counts,
+    nodes: &[u32],
+    roots: &[u32],
+    used: &mut [u32],
+    last_use: &mut [u32],
+    is_root: &mut [u32],
+) -> usize
+    requires { ⌜ LiveOk c (now nodes) (now roots) (now used) (now last_use) (now «is_root») ⌝ }
+    ensures { λ r. ⌜ Alive c (now (nodes .entry)) (now (roots .entry)) (now (used .exit)) (now (last_use .exit)) (now («is_root» .exit)) r ⌝ }
+{
+    mark_readers(c.nodes, nodes, used, last_use);
+    mark_roots(c.nodes, c.roots, roots, is_root);
+    mark_emitted(nodes, is_root, used)
 }
