@@ -1,4 +1,5 @@
 -- Laws of lowering.
+pub mod AgreeLaws
 pub mod LiveLaws
 pub mod MarkLaws
 pub mod OutLaws
