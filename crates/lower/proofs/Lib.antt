@@ -1,5 +1,6 @@
 -- Laws of lowering.
 pub mod AgreeLaws
+pub mod BlobLaws
 pub mod LiveLaws
 pub mod MarkLaws
 pub mod OutLaws

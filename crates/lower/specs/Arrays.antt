@@ -10,9 +10,13 @@ use lib.Seq.{sets}
 use Rattle.laws.specs.Folds.{anyBelow}
 use Rattle.ir.specs.declared.program.Counts.{Counts}
 use Rattle.ir.specs.Words.{Node, nodeAt, var, add, neg}
+use Rattle.ir.specs.Program.{most}
+use Rattle.ir.specs.WellFormed.{WellFormed}
 use Rattle.device.specs.Blob.{Instr}
 use Rattle.lower.specs.Liveness.{has, operands, isUniform, readsOf, isRoot, lastBy, Liveness, live}
-use Rattle.lower.specs.Lower.{Scan, pick, left, more, slotWord, encode, written, give, giveAll, claim, scan, flat}
+use Rattle.lower.specs.Lower.{Scan, pick, left, more, slotWord, encode, written, give, giveAll, claim, scan, flat, Lowered, lowered}
+use Rattle.lower.specs.Answer.{Output}
+use Rattle.lower.specs.Answer as Answer
 
 -- the first n words of a list are the map's
 abbrev pub Tab : List ℕ → ℕ → (ℕ → ℕ) → Type 0
@@ -274,3 +278,21 @@ pub record RootOk (j : ℕ) (nodes slot : List ℕ) : Type 0 where
 pub record RootsOk (count : ℕ) (nodes roots slot : List ℕ) : Type 0 where
   pub long : count ≤ length roots
   pub each : (r : ℕ) → r < count → RootOk (getD roots r 0) nodes slot
+
+-- ---- the blob
+
+-- a program that was let through, its liveness on the lists, and room for `count` nodes
+pub record WriteOk (c : Counts) (nodes bases exts roots emitted last pinned slot free : List ℕ) (count : ℕ) (out-nodes out-bases out-exts out-roots : List ℕ) : Type 0 where
+  pub formed : WellFormed c nodes roots
+  pub few : (c .nodes ≤ most) × (c .bases ≤ most) × (c .exts ≤ most)
+  pub long : (4 * c .nodes ≤ length nodes) × (c .bases ≤ length bases) × (3 * c .exts ≤ length exts) × (c .roots ≤ length roots)
+  pub alive : Alive c nodes roots emitted last pinned count
+  pub lists-long : (length slot ≡ c .nodes) × (length free ≡ 2 * c .nodes)
+  pub clear : busy slot ≡ 0
+  pub room : (4 * count ≤ length out-nodes) × (c .bases ≤ length out-bases) × (3 * c .exts ≤ length out-exts) × (c .roots ≤ length out-roots)
+
+-- the blob is written
+pub record BlobWritten (c : Counts) (l : Lowered) (old new : Output) (count : ℕ) (next : List ℕ) : Type 0 where
+  pub words : new ≡ Answer.written l old
+  pub counted : count ≡ l .count
+  pub slots : (getD next 0 0 ≡ l .base-slots) × (getD next 1 0 ≡ l .ext-slots)

@@ -6,10 +6,22 @@ ghost use lib.ListN.{length, getD, drop};
 ghost use Rattle.laws.specs.Lists.{tabulate};
 ghost use Rattle.field.specs.Base.{p};
 ghost use Rattle.device.specs.Check.{cleared};
-ghost use Rattle.lower.specs.Lower.{rootWord};
-ghost use Rattle.lower.specs.Arrays.{RootOk, RootsOk};
+ghost use Rattle.lower.specs.Lower.{rootWord, lowered};
+ghost use Rattle.lower.specs.Arrays.{RootOk, RootsOk, WriteOk, BlobWritten};
+ghost use Rattle.lower.specs.Liveness.{live};
+use super::scan::Place;
+use super::scan::scan_nodes;
+use device::blob::BlobCounts;
 use device::blob::RES_EXT_BIT;
 use field::goldilocks::Fp;
+use ir::program::Counts;
+use ir::refusal::Refusal;
+
+// The blob's counts, with its words in the caller's room, or why there is none.
+pub enum Lowering {
+    Lowered(BlobCounts),
+    Refused(Refusal),
+}
 
 // The first n words become 0.
 fn clear(list: &mut [u32], n: usize)
@@ -60,4 +72,32 @@ fn write_roots(count: usize, nodes: &[u32], roots: &[u32], slot_of: &[u32], out:
         out[r] = root_word(roots[r], nodes, slot_of);
         r += 1;
     }
+}
+
+// The nodes by the scan, the roots by their slots, the constants below p.
+fn write_blob(
+    c: Counts,
+    nodes: &[u32],
+    bases: &[u64],
+    exts: &[u64],
+    roots: &[u32],
+    emitted: &[u32],
+    last_use: &[u32],
+    is_root: &[u32],
+    slot_of: &mut [u32],
+    free: &mut [u32],
+    count: usize,
+    out_nodes: &mut [u32],
+    out_bases: &mut [u64],
+    out_exts: &mut [u64],
+    out_roots: &mut [u32],
+) -> Place
+    requires { ⌜ WriteOk c (now nodes) (now bases) (now exts) (now roots) (now emitted) (now last_use) (now «is_root») (now «slot_of») (now free) count (now «out_nodes») (now «out_bases») (now «out_exts») (now «out_roots») ⌝ }
+    ensures { λ r. ⌜ BlobWritten c (lowered c (now (nodes .entry)) (now (roots .entry)) (now (bases .entry)) (now (exts .entry)) (live c (now (nodes .entry)) (now (roots .entry)))) (record { nodes = now («out_nodes» .entry); bases = now («out_bases» .entry); exts = now («out_exts» .entry); roots = now («out_roots» .entry) }) (record { nodes = now («out_nodes» .exit); bases = now («out_bases» .exit); exts = now («out_exts» .exit); roots = now («out_roots» .exit) }) (r .count) (r .pools .nexts) ⌝ }
+{
+    let place = scan_nodes(nodes, emitted, last_use, is_root, slot_of, free, out_nodes);
+    write_roots(c.roots, nodes, roots, slot_of, out_roots);
+    copy_constants(c.bases, bases, out_bases);
+    copy_constants(3 * c.exts, exts, out_exts);
+    place
 }

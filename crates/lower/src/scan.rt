@@ -297,6 +297,7 @@ pub fn scan_nodes(
 ) -> Place
     requires { ⌜ Begins (now nodes) (now emitted) (now last_use) (now «is_root») (now «slot_of») (now free) (now out) ⌝ }
     ensures { λ r. ⌜ Scanned (length (now («slot_of» .entry))) (now (nodes .entry)) (now (emitted .entry)) (now (last_use .entry)) (now («is_root» .entry)) (now (out .entry)) (now («slot_of» .exit)) (now (free .exit)) (r .pools .tops) (r .pools .nexts) (now (out .exit)) (r .count) ⌝ }
+    ensures { λ r. ⌜ length (now («slot_of» .exit)) ≡ length (now («slot_of» .entry)) ⌝ }
 {
     let n = slot_of.len();
     let mut place = Place {

@@ -52,7 +52,7 @@ same-length-3 c = let a = c .before .before .before .before .before .before .bef
 
 -- src/scan.rt:289:1
 returns : tie.Need-returns Inv-loop μ-loop
-returns c = let l = c .before .loop in let e : l .i ≡ length (c .before .before .before .before .before .before .before .before .before .args .slot-of .now) = omega (arith, c .loop-test .left, l .inv .0) in rw e at (l .inv .2)
+returns c = let l = c .before .loop in let e : l .i ≡ length (c .before .before .before .before .before .before .before .before .before .args .slot-of .now) = omega (arith, c .loop-test .left, l .inv .0) in (rw e at (l .inv .2), l .inv .1)
 
 pub scan-nodes-spec : {M : Type 1} → statement M
 scan-nodes-spec =
