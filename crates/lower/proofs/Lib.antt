@@ -1,6 +1,8 @@
 -- Laws of lowering.
 pub mod AgreeLaws
+pub mod AnswerLaws
 pub mod BlobLaws
+pub mod EndLaws
 pub mod LiveLaws
 pub mod MarkLaws
 pub mod OutLaws

@@ -1,5 +1,7 @@
 // Lowering: the words of a program become those of a blob. After device.rs, `DeviceProgram::lower`.
+ghost use mathlib.Core.Bool.{_||_};
 ghost use mathlib.Core.List.{_++_};
+ghost use lib.Dec.{ltb};
 ghost use mathlib.Core.Path.{_≡_};
 ghost use Prim.Native.Nat.{_+_, _-_, _*_, _%_, _<_, _≤_};
 ghost use lib.ListN.{length, getD, drop};
@@ -7,14 +9,21 @@ ghost use Rattle.laws.specs.Lists.{tabulate};
 ghost use Rattle.field.specs.Base.{p};
 ghost use Rattle.device.specs.Check.{cleared};
 ghost use Rattle.lower.specs.Lower.{rootWord, lowered};
-ghost use Rattle.lower.specs.Arrays.{RootOk, RootsOk, WriteOk, BlobWritten};
+ghost use Rattle.lower.specs.Arrays.{RootOk, RootsOk, WriteOk, BlobWritten, ListsLong, CountsOk, LowerOk, WordsAnswer};
+ghost use Rattle.lower.specs.Answer.{emptied, LowerAnswer};
 ghost use Rattle.lower.specs.Liveness.{live};
-use super::scan::Place;
+use super::liveness::mark_live;
+use super::scan::Progress;
 use super::scan::scan_nodes;
 use device::blob::BlobCounts;
 use device::blob::RES_EXT_BIT;
 use field::goldilocks::Fp;
 use ir::program::Counts;
+use ir::program::ill_formed;
+use ir::program::short_tables;
+use ir::program::too_many_nodes;
+use ir::program::too_many_roots;
+use ir::refusal::Place;
 use ir::refusal::Refusal;
 
 // The blob's counts, with its words in the caller's room, or why there is none.
@@ -91,13 +100,209 @@ fn write_blob(
     out_bases: &mut [u64],
     out_exts: &mut [u64],
     out_roots: &mut [u32],
-) -> Place
+) -> Progress
     requires { ⌜ WriteOk c (now nodes) (now bases) (now exts) (now roots) (now emitted) (now last_use) (now «is_root») (now «slot_of») (now free) count (now «out_nodes») (now «out_bases») (now «out_exts») (now «out_roots») ⌝ }
     ensures { λ r. ⌜ BlobWritten c (lowered c (now (nodes .entry)) (now (roots .entry)) (now (bases .entry)) (now (exts .entry)) (live c (now (nodes .entry)) (now (roots .entry)))) (record { nodes = now («out_nodes» .entry); bases = now («out_bases» .entry); exts = now («out_exts» .entry); roots = now («out_roots» .entry) }) (record { nodes = now («out_nodes» .exit); bases = now («out_bases» .exit); exts = now («out_exts» .exit); roots = now («out_roots» .exit) }) (r .count) (r .pools .nexts) ⌝ }
+    ensures { λ r. ⌜ (length (now («slot_of» .exit)) ≡ c .nodes) × (length (now (free .exit)) ≡ 2 * c .nodes) × (length (r .pools .nexts) ≡ 2) ⌝ }
 {
     let place = scan_nodes(nodes, emitted, last_use, is_root, slot_of, free, out_nodes);
     write_roots(c.roots, nodes, roots, slot_of, out_roots);
     copy_constants(c.bases, bases, out_bases);
     copy_constants(3 * c.exts, exts, out_exts);
     place
+}
+
+// All that lowering borrows for n nodes becomes 0.
+fn clear_lists(
+    n: usize,
+    used: &mut [u32],
+    last_use: &mut [u32],
+    is_root: &mut [u32],
+    slot_of: &mut [u32],
+    free: &mut [u32],
+)
+    requires { ⌜ ListsLong n (record { used = now used; last = now last_use; root = now «is_root»; slot = now «slot_of»; free = now free }) ⌝ }
+    ensures { λ _. ⌜ record { used = now (used .exit); last = now (last_use .exit); root = now («is_root» .exit); slot = now («slot_of» .exit); free = now (free .exit) } ≡ emptied n (record { used = now (used .entry); last = now (last_use .entry); root = now («is_root» .entry); slot = now («slot_of» .entry); free = now (free .entry) }) ⌝ }
+{
+    clear(used, n);
+    clear(last_use, n);
+    clear(is_root, n);
+    clear(slot_of, n);
+    clear(free, 2 * n);
+}
+
+fn short_lists(n: usize, used: usize, last: usize, root: usize, slot: usize, free: usize) -> bool
+    requires { ⌜ n ≤ 536870911 ⌝ }
+    ensures { λ r. ⌜ r ≡ (ltb used n || ltb last n || ltb root n || ltb slot n || ltb free (2 * n)) ⌝ }
+{
+    if used < n {
+        return true;
+    }
+    if last < n {
+        return true;
+    }
+    if root < n {
+        return true;
+    }
+    if slot < n {
+        return true;
+    }
+    free < 2 * n
+}
+
+// The blob's words have no room.
+fn short_output(
+    c: Counts,
+    count: usize,
+    nodes: usize,
+    bases: usize,
+    exts: usize,
+    roots: usize,
+) -> bool
+    requires { ⌜ (count ≤ 536870911) × (c .exts ≤ 536870911) ⌝ }
+    ensures { λ r. ⌜ r ≡ (ltb nodes (4 * count) || ltb bases (c .bases) || ltb exts (3 * c .exts) || ltb roots (c .roots)) ⌝ }
+{
+    if nodes < 4 * count {
+        return true;
+    }
+    if bases < c.bases {
+        return true;
+    }
+    if exts < 3 * c.exts {
+        return true;
+    }
+    roots < c.roots
+}
+
+// Constants' and roots' counts and num_base are carried over.
+fn counts_of(c: Counts, place: Progress) -> BlobCounts
+    requires { ⌜ CountsOk c (place .count) (place .pools .nexts) ⌝ }
+    ensures { λ r. ⌜ r ≡ record { nodes = place .count; bases = c .bases; exts = c .exts; roots = c .roots; «num_base» = c .«num_base»; «base_slots» = getD (place .pools .nexts) 0 0; «ext_slots» = getD (place .pools .nexts) 1 0 } ⌝ }
+{
+    let pools = place.pools;
+    let nexts = pools.nexts;
+    BlobCounts {
+        nodes: place.count as u32,
+        bases: c.bases as u32,
+        exts: c.exts as u32,
+        roots: c.roots as u32,
+        num_base: c.num_base as u32,
+        base_slots: nexts[0],
+        ext_slots: nexts[1],
+    }
+}
+
+// A program that passed every test but 10, over lists that are as long as it needs.
+fn lower_words(
+    c: Counts,
+    nodes: &[u32],
+    bases: &[u64],
+    exts: &[u64],
+    roots: &[u32],
+    used: &mut [u32],
+    last_use: &mut [u32],
+    is_root: &mut [u32],
+    slot_of: &mut [u32],
+    free: &mut [u32],
+    out_nodes: &mut [u32],
+    out_bases: &mut [u64],
+    out_exts: &mut [u64],
+    out_roots: &mut [u32],
+) -> Lowering
+    requires { ⌜ LowerOk (record { counts = c; nodes = now nodes; bases = now bases; exts = now exts; roots = now roots }) (record { used = now used; last = now last_use; root = now «is_root»; slot = now «slot_of»; free = now free }) ⌝ }
+    ensures { λ r. ⌜ WordsAnswer (record { counts = c; nodes = now (nodes .entry); bases = now (bases .entry); exts = now (exts .entry); roots = now (roots .entry) }) (record { used = now (used .entry); last = now (last_use .entry); root = now («is_root» .entry); slot = now («slot_of» .entry); free = now (free .entry) }) (record { nodes = now («out_nodes» .entry); bases = now («out_bases» .entry); exts = now («out_exts» .entry); roots = now («out_roots» .entry) }) r (record { used = now (used .exit); last = now (last_use .exit); root = now («is_root» .exit); slot = now («slot_of» .exit); free = now (free .exit) }) (record { nodes = now («out_nodes» .exit); bases = now («out_bases» .exit); exts = now («out_exts» .exit); roots = now («out_roots» .exit) }) ⌝ }
+{
+    let n = c.nodes;
+    clear_lists(n, used, last_use, is_root, slot_of, free);
+    let count = mark_live(c, nodes, roots, used, last_use, is_root);
+    if short_output(
+        c,
+        count,
+        out_nodes.len(),
+        out_bases.len(),
+        out_exts.len(),
+        out_roots.len(),
+    ) {
+        clear_lists(n, used, last_use, is_root, slot_of, free);
+        return Lowering::Refused(Refusal::ShortOutput);
+    }
+    let place = write_blob(
+        c,
+        nodes,
+        bases,
+        exts,
+        roots,
+        used,
+        last_use,
+        is_root,
+        slot_of,
+        free,
+        count,
+        out_nodes,
+        out_bases,
+        out_exts,
+        out_roots,
+    );
+    clear_lists(n, used, last_use, is_root, slot_of, free);
+    Lowering::Lowered(counts_of(c, place))
+}
+
+// Lowers a program: 8, 9, 1, 7, 10. The lists are four of a word a node and one of two.
+pub fn lower(
+    c: Counts,
+    nodes: &[u32],
+    bases: &[u64],
+    exts: &[u64],
+    roots: &[u32],
+    used: &mut [u32],
+    last_use: &mut [u32],
+    is_root: &mut [u32],
+    slot_of: &mut [u32],
+    free: &mut [u32],
+    out_nodes: &mut [u32],
+    out_bases: &mut [u64],
+    out_exts: &mut [u64],
+    out_roots: &mut [u32],
+) -> Lowering
+    ensures { λ r. ⌜ LowerAnswer (record { counts = c; nodes = now (nodes .entry); bases = now (bases .entry); exts = now (exts .entry); roots = now (roots .entry) }) (record { used = now (used .entry); last = now (last_use .entry); root = now («is_root» .entry); slot = now («slot_of» .entry); free = now (free .entry) }) (record { nodes = now («out_nodes» .entry); bases = now («out_bases» .entry); exts = now («out_exts» .entry); roots = now («out_roots» .entry) }) r (record { used = now (used .exit); last = now (last_use .exit); root = now («is_root» .exit); slot = now («slot_of» .exit); free = now (free .exit) }) (record { nodes = now («out_nodes» .exit); bases = now («out_bases» .exit); exts = now («out_exts» .exit); roots = now («out_roots» .exit) }) ⌝ }
+{
+    if too_many_nodes(c) {
+        return Lowering::Refused(Refusal::TooManyNodes);
+    }
+    if too_many_roots(c) {
+        return Lowering::Refused(Refusal::TooManyRoots);
+    }
+    if short_tables(c, nodes.len(), bases.len(), exts.len(), roots.len()) {
+        return Lowering::Refused(Refusal::ShortMemory);
+    }
+    let n = c.nodes;
+    if short_lists(
+        n,
+        used.len(),
+        last_use.len(),
+        is_root.len(),
+        slot_of.len(),
+        free.len(),
+    ) {
+        return Lowering::Refused(Refusal::ShortMemory);
+    }
+    if let Place::At(place) = ill_formed(c, nodes, roots) {
+        return Lowering::Refused(Refusal::IllFormed { place });
+    }
+    lower_words(
+        c,
+        nodes,
+        bases,
+        exts,
+        roots,
+        &mut used[..n],
+        &mut last_use[..n],
+        &mut is_root[..n],
+        &mut slot_of[..n],
+        &mut free[..2 * n],
+        out_nodes,
+        out_bases,
+        out_exts,
+        out_roots,
+    )
 }

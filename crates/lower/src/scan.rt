@@ -220,7 +220,7 @@ fn put(out: &mut [u32], k: usize, w: Words, res: u32)
 }
 
 // How far the scan is: the slots, and the nodes written.
-pub struct Place {
+pub struct Progress {
     pub pools: Pools,
     pub count: usize,
 }
@@ -233,8 +233,8 @@ fn claim(
     slot_of: &mut [u32],
     free: &[u32],
     out: &mut [u32],
-    place: Place,
-) -> Place
+    place: Progress,
+) -> Progress
     requires { ⌜ ClaimOk i class (now «slot_of») (now free) (place .pools .tops) (place .pools .nexts) (now out) (place .count) ⌝ }
     ensures { λ r. ⌜ r .count ≡ place .count + 1 ⌝ }
     ensures { λ r. ⌜ Claimed i class (w .op) (w .a) (w .b) (now («slot_of» .entry)) (now (free .entry)) (place .pools .tops) (place .pools .nexts) (now (out .entry)) (place .count) (now («slot_of» .exit)) (r .pools .tops) (r .pools .nexts) (now (out .exit)) (pick (stack (now (free .entry)) class (getD (place .pools .tops) class 0)) (getD (place .pools .nexts) class 0)) ⌝ }
@@ -246,7 +246,7 @@ fn claim(
     let left = taken.pools;
     slot_of[i] = slot + 1;
     put(out, count, w, class * RES_EXT_BIT + slot);
-    Place {
+    Progress {
         pools: left,
         count: count + 1,
     }
@@ -262,8 +262,8 @@ fn step(
     slot_of: &mut [u32],
     free: &mut [u32],
     out: &mut [u32],
-    place: Place,
-) -> Place
+    place: Progress,
+) -> Progress
     requires { ⌜ Ready i (now nodes) (now emitted) (now last_use) (now «is_root») (now «slot_of») (now free) (place .pools .tops) (place .pools .nexts) (now out) (place .count) ⌝ }
     ensures { λ r. ⌜ Advanced i (now (nodes .entry)) (now (emitted .entry)) (now (last_use .entry)) (now («is_root» .entry)) (now («slot_of» .entry)) (now (out .entry)) (place .count) (now («slot_of» .exit)) (now (free .exit)) (r .pools .tops) (r .pools .nexts) (now (out .exit)) (r .count) ⌝ }
 {
@@ -281,7 +281,7 @@ fn step(
         slot_of,
         free,
         out,
-        Place { pools: left, count },
+        Progress { pools: left, count },
     )
 }
 
@@ -294,13 +294,13 @@ pub fn scan_nodes(
     slot_of: &mut [u32],
     free: &mut [u32],
     out: &mut [u32],
-) -> Place
+) -> Progress
     requires { ⌜ Begins (now nodes) (now emitted) (now last_use) (now «is_root») (now «slot_of») (now free) (now out) ⌝ }
     ensures { λ r. ⌜ Scanned (length (now («slot_of» .entry))) (now (nodes .entry)) (now (emitted .entry)) (now (last_use .entry)) (now («is_root» .entry)) (now (out .entry)) (now («slot_of» .exit)) (now (free .exit)) (r .pools .tops) (r .pools .nexts) (now (out .exit)) (r .count) ⌝ }
     ensures { λ r. ⌜ length (now («slot_of» .exit)) ≡ length (now («slot_of» .entry)) ⌝ }
 {
     let n = slot_of.len();
-    let mut place = Place {
+    let mut place = Progress {
         pools: Pools {
             tops: [0, 0],
             nexts: [0, 0],

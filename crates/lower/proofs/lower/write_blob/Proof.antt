@@ -1,3 +1,5 @@
+use mathlib.Core.Path.{_∙_, ap}
+use Prim.Native.Nat.{_*_}
 use Rattle.lower.proofs.BlobLaws.{begins-ok, roots-ok, blob-written}
 use native.Mathlib.Omega.{arith}
 use borrow.Author.Needs.{needs}
@@ -55,7 +57,7 @@ same-length-6 c = search needs
 
 -- src/lower.rt:78:1
 returns : tie.Need-returns
-returns c = let a = c .before .before .before .before .before .before .before .before .before .before .before .before .before .before .before .before .before .before .before .before .before .before .before .before .before .before .before .before .before .before .before .before .before .before .before .before .before .args in let e = c .before .before .before .before .before .before .before .before .before .before .before .before .before .before .before .before .before .before .before .before .scan-nodes .ensures in blob-written (a .c) (a .nodes .now) (a .bases .now) (a .exts .now) (a .roots .now) (a .emitted .now) (a .last-use .now) (a .is-root .now) (a .slot-of .now) (a .free .now) (a .count) (a .out-nodes .now) (a .out-bases .now) (a .out-exts .now) (a .out-roots .now) (c .before .before .before .before .before .before .before .before .before .before .before .before .before .before .before .before .before .before .before .before .before .before .before .before .before .before .before .before .before .before .before .before .before .before .before .before .before .pre) _ _ _ _ _ _ (e .0) (e .1) _ _ _ (c .before .before .before .before .before .before .before .before .before .before .before .write-roots .ensures) (c .before .before .before .before .before .before .before .copy-constants .ensures) (c .before .before .copy-constants2 .ensures)
+returns c = let a = c .before .before .before .before .before .before .before .before .before .before .before .before .before .before .before .before .before .before .before .before .before .before .before .before .before .before .before .before .before .before .before .before .before .before .before .before .before .args in let e = c .before .before .before .before .before .before .before .before .before .before .before .before .before .before .before .before .before .before .before .before .scan-nodes .ensures in let n = e .1 ∙ (c .before .before .before .before .before .before .before .before .before .before .before .before .before .before .before .before .before .before .before .before .before .before .before .before .before .before .before .before .before .before .before .before .before .before .before .before .before .pre .lists-long .0) in (blob-written (a .c) (a .nodes .now) (a .bases .now) (a .exts .now) (a .roots .now) (a .emitted .now) (a .last-use .now) (a .is-root .now) (a .slot-of .now) (a .free .now) (a .count) (a .out-nodes .now) (a .out-bases .now) (a .out-exts .now) (a .out-roots .now) (c .before .before .before .before .before .before .before .before .before .before .before .before .before .before .before .before .before .before .before .before .before .before .before .before .before .before .before .before .before .before .before .before .before .before .before .before .before .pre) _ _ _ _ _ _ (e .0) (e .1) _ _ _ (c .before .before .before .before .before .before .before .before .before .before .before .write-roots .ensures) (c .before .before .before .before .before .before .before .copy-constants .ensures) (c .before .before .copy-constants2 .ensures), (n, e .0 .stands .free-long ∙ ap (λ m. 2 * m) n, e .0 .stands .pairs .1))
 
 pub write-blob-spec : {M : Type 1} → statement M
 write-blob-spec =
