@@ -58,6 +58,7 @@ prover-tryable c s nodes roots room l base ext k =
     let w = within s (m .shape-within) in
     record {
       fits = prover-fits s c l (t .bases-long) (t .exts-long) (f .aux-long) (f .challenges-long) (f .alphas-long) (f .main-long);
+      base-cells = refl;
       narrow = record { main = w .main; aux = w .aux; challenges = w .challenges; alphas = w .alphas; offsets = le-refl 1 };
       nodes-long = t .nodes-long;
       room-long = m .room-long;

@@ -10,5 +10,6 @@ pub mod ReadyLaws
 pub mod RefuseLaws
 pub mod RunLaws
 pub mod Single
+pub mod StepLaws
 pub mod TrialLaws
 pub mod ValueLaws

@@ -70,7 +70,7 @@ module _ (s : Strides) (l : Lent) (nodes old : List ℕ) where
   Passed room i = BlocksReplaced 4 (Held s l nodes) old room i
 
   -- an operand that was passed
-  operand : (room : List ℕ) (i x : ℕ) → Passed room i → x < i → StandsIn room (values goldilocks (leaves s l) nodes i x) x
+  pub operand : (room : List ℕ) (i x : ℕ) → Passed room i → x < i → StandsIn room (values goldilocks (leaves s l) nodes i x) x
   operand room i x w h = rw (value-stays goldilocks (leaves s l) nodes x i h) (w .done x h .stands)
 
   pub passed-low : (room : List ℕ) (i : ℕ) → Passed room i → LowBefore room i

@@ -3,12 +3,12 @@
 use mathlib.Core.Bool.{Bool, true, false, cond}
 use mathlib.Core.List.{List, _++_}
 use mathlib.Core.Path.{_≡_, refl, sym, ap, subst, _∙_}
-use Prim.Native.Nat.{ℕ, suc, _+_, _*_, _/_, _%_, _<_, _≤_}
+use Prim.Native.Nat.{ℕ, zero, suc, _+_, _*_, _/_, _%_, _<_, _≤_}
 use native.Mathlib.Nat.{zero-add}
 use native.Mathlib.Numerals.{add-one}
 use native.Mathlib.Omega.{arith}
 use lib.Dec.{eqb, leb, ltb}
-use lib.ListN.{length, getD, set, take, drop, length-drop, take-append-drop}
+use lib.ListN.{length, getD, set, take, drop, replicate, length-drop, take-append-drop}
 use lib.Seq.{paste, paste-suc, length-paste, drop-paste, length-take-le, drop-append-le, take-append-le}
 use borrow.Author.Tests.{eqb-true, lt-ltb, le-ltb, lt-leb, eq-eqb, ne-eqb}
 use Rattle.laws.specs.Lists.{block}
@@ -25,7 +25,7 @@ use Rattle.interp.specs.Values.{Value}
 use Rattle.interp.specs.Frame.{Lent, cellOutside, outside}
 use Rattle.interp.specs.Operations.{NodeReady}
 use Rattle.interp.specs.Room.{Kept, RoomHolds}
-use Rattle.interp.specs.Trial.{Fits, Narrow, Passable, leafLimit, LeafFits, NodeFits, Admits, Tried, Trial}
+use Rattle.interp.specs.Trial.{Fits, Narrow, leafLimit, LeafFits, NodeFits, Tried, Trial}
 use Rattle.interp.proofs.ReadyLaws.{node-ready}
 use Rattle.interp.proofs.ValueLaws.{main-mark, aux-mark}
 
@@ -94,16 +94,9 @@ module _ (c : Counts) (m : Limits) (nodes : List ℕ) (i : ℕ) (w : Node) where
         inside = simp (ne-eqb (w .tag) 2 (λ q. omega arith), ne-eqb (w .tag) 3 (λ q. omega arith), ne-eqb (w .tag) 4 (λ q. omega arith), ne-eqb (w .tag) 5 (λ q. omega arith));
       }
 
-passed-ready : (s : Strides) (m : Limits) (c : Counts) (l : Lent) → Fits s m c l → (nodes : List ℕ) (i : ℕ) → NodeFits c m nodes i (nodeAt nodes i) → NodeReady s l i (nodeAt nodes i .tag) (nodeAt nodes i .x) (nodeAt nodes i .y)
+pub passed-ready : (s : Strides) (m : Limits) (c : Counts) (l : Lent) → Fits s m c l → (nodes : List ℕ) (i : ℕ) → NodeFits c m nodes i (nodeAt nodes i) → NodeReady s l i (nodeAt nodes i .tag) (nodeAt nodes i .x) (nodeAt nodes i .y)
 unfolding nodeOk
 passed-ready s m c l f nodes i h = node-ready s m c l f nodes i (node-facts c nodes i (h .formed)) (h .inside)
-
--- a node that was admitted, whether it was tested now or before
-pub admitted-ready : (tested : Bool) (s : Strides) (m : Limits) (c : Counts) (l : Lent) (nodes : List ℕ) {room : ℕ} → Passable tested s m c l nodes room → (i : ℕ) → i < c .nodes → {r : Bool} → Admits tested c m nodes i (nodeAt nodes i) r → r ≡ true → NodeReady s l i (nodeAt nodes i .tag) (nodeAt nodes i .x) (nodeAt nodes i .y)
-admitted-ready tested s m c l nodes p i h a e =
-    by-test tested (NodeReady s l i (nodeAt nodes i .tag) (nodeAt nodes i .x) (nodeAt nodes i .y))
-    (λ t. p .ready t i h)
-    λ t. passed-ready s m c l (p .trial t .fits) nodes i (a .fits t e)
 
 -- ---- the copy
 
@@ -141,3 +134,10 @@ module _ (s : Strides) (m : Limits) (c : Counts) (l : Lent) (nodes : List ℕ) w
 
   pub trial-kept : (room : List ℕ) → Trial s m c l nodes room room false
   trial-kept room = record { done = λ q. clash q refl; kept = λ q. refl }
+
+-- ---- a room that was cleared
+
+pub zeros : (n k : ℕ) → getD (replicate {A = ℕ} n 0) k 0 ≡ 0
+zeros zero k = refl
+zeros (suc n) zero = refl
+zeros (suc n) (suc k) = zeros n k

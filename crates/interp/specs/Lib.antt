@@ -5,6 +5,7 @@ pub mod ExampleE
 pub mod Frame
 pub mod Operations
 pub mod Room
+pub mod Step
 pub mod Trial
 pub mod Values
 pub mod Writes

@@ -44,16 +44,10 @@ pub record Narrow (m : Limits) : Type 0 where
 
 pub record Tryable (s : Strides) (m : Limits) (c : Counts) (l : Lent) (nodes room : ℕ) : Type 0 where
   pub fits : Fits s m c l
+  pub base-cells : s .wide ≡ false
   pub narrow : Narrow m
   pub nodes-long : 4 * c .nodes ≤ nodes
   pub room-long : 4 * c .nodes ≤ room
-
--- what a pass asks: of nodes that were tested before, that each can be evaluated
-pub record Passable (tested : Bool) (s : Strides) (m : Limits) (c : Counts) (l : Lent) (nodes : List ℕ) (room : ℕ) : Type 0 where
-  pub nodes-long : 4 * c .nodes ≤ length nodes
-  pub room-long : 4 * c .nodes ≤ room
-  pub trial : tested ≡ false → Tryable s m c l (length nodes) room
-  pub ready : tested ≡ true → (i : ℕ) → i < c .nodes → NodeReady s l i (nodeAt nodes i .tag) (nodeAt nodes i .x) (nodeAt nodes i .y)
 
 -- ---- what it finds of a node: 7 and 13 let it through
 
@@ -73,18 +67,7 @@ pub record NodeFits (c : Counts) (m : Limits) (nodes : List ℕ) (i : ℕ) (w : 
   pub formed : cond (ltb (w .tag) add) (leafOk c w) (operationOk nodes i w) ≡ true
   pub inside : outside m (w .tag) (w .x) (w .y) ≡ false
 
--- the test of a node, unless it was made before
-pub record Admits (tested : Bool) (c : Counts) (m : Limits) (nodes : List ℕ) (i : ℕ) (w : Node) (passed : Bool) : Type 0 where
-  pub fits : tested ≡ false → passed ≡ true → NodeFits c m nodes i w
-  pub sure : tested ≡ true → passed ≡ true
-
 -- ---- what it gives
-
--- a pass over the nodes
-pub record Passes (tested : Bool) (s : Strides) (m : Limits) (c : Counts) (l : Lent) (nodes old new : List ℕ) (passed : Bool) : Type 0 where
-  pub node-fits : tested ≡ false → passed ≡ true → (j : ℕ) → j < c .nodes → NodeFits c m nodes j (nodeAt nodes j)
-  pub holds : passed ≡ true → RoomHolds (values goldilocks (leaves s l) nodes (c .nodes)) (c .nodes) old new
-  pub sure : tested ≡ true → passed ≡ true
 
 -- every node passed, and its value is in the room
 pub record Tried (s : Strides) (m : Limits) (c : Counts) (l : Lent) (nodes old new : List ℕ) : Type 0 where

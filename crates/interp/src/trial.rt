@@ -8,7 +8,7 @@ ghost use Rattle.interp.specs.Frame.{lent};
 ghost use Rattle.interp.specs.Trial.{Tryable, Trial};
 use super::frame::Limits;
 use super::frame::Strides;
-use super::run::pass;
+use super::step::pass;
 use field::extensions_goldilocks::Ext;
 use ir::program::Counts;
 
@@ -21,46 +21,6 @@ fn copy_words(from: &[u64], to: &mut [u64], count: usize)
         to[i] = from[i];
         i += 1;
     }
-}
-
-// The trial in a room that is lent for it; the other room is written at the end.
-fn try_in(
-    c: Counts,
-    m: Limits,
-    s: Strides,
-    offset: Ext,
-    nodes: &[u32],
-    bases: &[u64],
-    exts: &[u64],
-    main: &[u64],
-    aux: &[u64],
-    challenges: &[u64],
-    alphas: &[u64],
-    own: &mut [u64],
-    room: &mut [u64],
-) -> bool
-    requires { ⌜ Tryable s m c (lent (now bases) (now exts) (now main) (now aux) (now challenges) (now alphas) (offset .limbs)) (length (now nodes)) (length (now own)) × (4 * c .nodes ≤ length (now room)) ⌝ }
-    ensures { λ r. ⌜ Trial s m c (lent (now (bases .entry)) (now (exts .entry)) (now (main .entry)) (now (aux .entry)) (now (challenges .entry)) (now (alphas .entry)) (offset .limbs)) (now (nodes .entry)) (now (room .entry)) (now (room .exit)) r ⌝ }
-{
-    if !pass(
-        false,
-        c,
-        m,
-        s,
-        offset,
-        nodes,
-        bases,
-        exts,
-        main,
-        aux,
-        challenges,
-        alphas,
-        &mut own[..],
-    ) {
-        return false;
-    }
-    copy_words(&own[..], &mut room[..], 4 * c.nodes);
-    true
 }
 
 // Up to 128 nodes.
@@ -82,7 +42,7 @@ pub fn try_small(
     ensures { λ r. ⌜ Trial s m c (lent (now (bases .entry)) (now (exts .entry)) (now (main .entry)) (now (aux .entry)) (now (challenges .entry)) (now (alphas .entry)) (offset .limbs)) (now (nodes .entry)) (now (room .entry)) (now (room .exit)) r ⌝ }
 {
     let mut own = [0u64; 512];
-    try_in(
+    if !pass(
         c,
         m,
         s,
@@ -95,8 +55,11 @@ pub fn try_small(
         challenges,
         alphas,
         &mut own[..],
-        &mut room[..],
-    )
+    ) {
+        return false;
+    }
+    copy_words(&own[..], &mut room[..], 4 * c.nodes);
+    true
 }
 
 // Up to 1,024.
@@ -118,7 +81,7 @@ fn try_middle(
     ensures { λ r. ⌜ Trial s m c (lent (now (bases .entry)) (now (exts .entry)) (now (main .entry)) (now (aux .entry)) (now (challenges .entry)) (now (alphas .entry)) (offset .limbs)) (now (nodes .entry)) (now (room .entry)) (now (room .exit)) r ⌝ }
 {
     let mut own = [0u64; 4096];
-    try_in(
+    if !pass(
         c,
         m,
         s,
@@ -131,8 +94,11 @@ fn try_middle(
         challenges,
         alphas,
         &mut own[..],
-        &mut room[..],
-    )
+    ) {
+        return false;
+    }
+    copy_words(&own[..], &mut room[..], 4 * c.nodes);
+    true
 }
 
 // Up to 8,192.
@@ -154,7 +120,7 @@ fn try_large(
     ensures { λ r. ⌜ Trial s m c (lent (now (bases .entry)) (now (exts .entry)) (now (main .entry)) (now (aux .entry)) (now (challenges .entry)) (now (alphas .entry)) (offset .limbs)) (now (nodes .entry)) (now (room .entry)) (now (room .exit)) r ⌝ }
 {
     let mut own = [0u64; 32768];
-    try_in(
+    if !pass(
         c,
         m,
         s,
@@ -167,8 +133,11 @@ fn try_large(
         challenges,
         alphas,
         &mut own[..],
-        &mut room[..],
-    )
+    ) {
+        return false;
+    }
+    copy_words(&own[..], &mut room[..], 4 * c.nodes);
+    true
 }
 
 // More than 128 nodes, by size: a room is cleared first, which takes time in proportion to it. A program that is larger than

@@ -118,7 +118,7 @@ pub fn leaf(
 }
 
 // Operands that stand in the room are below P.
-fn base_operation(tag: u32, a: u64, b: u64) -> u64
+pub fn base_operation(tag: u32, a: u64, b: u64) -> u64
     requires { ⌜ (a < p) × (b < p) ⌝ }
     ensures { λ r. ⌜ Is (baseOp tag a b) r ⌝ }
 {

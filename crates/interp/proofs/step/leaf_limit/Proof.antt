@@ -2,8 +2,8 @@
 -- Assumes nothing.
 use Rattle.interp.specs.Trial.{leafLimit}
 use borrow.Author.Tests.{ne-eqb}
-use Rattle.interp.proofs.fits.leaf_limit.Statement.{statement}
-use Rattle.interp.proofs.fits.leaf_limit.Tie as tie
+use Rattle.interp.proofs.step.leaf_limit.Statement.{statement}
+use Rattle.interp.proofs.step.leaf_limit.Tie as tie
 
 returns : tie.Need-returns
 unfolding leafLimit
