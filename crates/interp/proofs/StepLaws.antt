@@ -14,8 +14,10 @@ use Rattle.laws.proofs.Blocks.{BlocksReplaced, blocks-more}
 use Rattle.laws.proofs.Cases.{by-test}
 use Rattle.laws.proofs.Tests.{clash, and-left, and-right}
 use Rattle.field.specs.Base.{p}
-use Rattle.field.specs.Ext.{limb}
+use Rattle.field.specs.Ext.{limb, scaled, embedded, product, Near, Limbs}
 use Rattle.field.specs.Tower.{goldilocks}
+use Rattle.field.proofs.Laws.{refl≈, equal}
+use Rattle.field.proofs.ExtLaws.{near-of, near-refl, near-sym, near-trans, limbs-stand, product-near, embedded-times, extension}
 use Rattle.ir.specs.declared.program.Counts.{Counts}
 use Rattle.ir.specs.Words.{Node, nodeAt}
 use Rattle.ir.specs.Program.{joined, operationOk}
@@ -154,3 +156,15 @@ low-limbs room i x h g e =
           let q : 4 * x + 1 + k ≡ 4 * x + (k + 1) = omega arith in
           subst (λ (n : ℕ). n < p) (sym (getD-take 3 (drop (4 * x + 1) room) k 0 b ∙ getD-drop (4 * x + 1) room k 0 ∙ ap (λ (n : ℕ). getD room n 0) q)) (h .low-word x (k + 1) g (omega arith));
     })
+
+-- ---- a product, where an operand's other limbs are 0
+
+of-base : (a : List ℕ) → limb a 1 ≡ 0 → limb a 2 ≡ 0 → Near 3 a (embedded 3 (limb a 0))
+unfolding embedded
+of-base a e f = near-of a (embedded 3 (limb a 0)) refl≈ (equal e) (equal f)
+
+pub scaled-product : (a b : List ℕ) {r : List ℕ} → limb a 1 ≡ 0 → limb a 2 ≡ 0 → Limbs 3 (scaled 3 (limb a 0) b) r → Limbs 3 (product a b) r
+scaled-product a b e f h = limbs-stand h (near-sym (near-trans (product-near (of-base a e f) (near-refl b)) (embedded-times (limb a 0) b)))
+
+pub product-scaled : (a b : List ℕ) {r : List ℕ} → limb b 1 ≡ 0 → limb b 2 ≡ 0 → Limbs 3 (scaled 3 (limb b 0) a) r → Limbs 3 (product a b) r
+product-scaled a b e f h = limbs-stand (scaled-product b a e f h) (extension .mul-comm b a)

@@ -7,7 +7,7 @@ ghost use Prim.Native.Nat.{ℕ, _+_, _*_, _<_, _≤_};
 ghost use lib.ListN.{length, getD};
 ghost use lib.Seq.{sets};
 ghost use Rattle.laws.specs.Lists.{tabulate};
-ghost use Rattle.field.specs.Ext.{limb, Limbs, sums, minuses};
+ghost use Rattle.field.specs.Ext.{limb, Limbs, sums, minuses, scaled, product};
 ghost use Rattle.field.specs.Tower.{goldilocks};
 ghost use Rattle.ir.specs.Words.{mainOf, offsetOf};
 ghost use Rattle.interp.specs.Values.{leafValue, base, ext};
@@ -287,6 +287,35 @@ fn ext_difference(a: Ext, b: Ext) -> Ext
     }
 }
 
+fn ext_scaled(x: u64, b: Ext) -> Ext
+    ensures { λ r. ⌜ Limbs 3 (scaled 3 x (b .limbs)) (r .limbs) ⌝ }
+{
+    Ext {
+        limbs: [
+            Fp::mul(x, b.limbs[0]),
+            Fp::mul(x, b.limbs[1]),
+            Fp::mul(x, b.limbs[2]),
+        ],
+    }
+}
+
+// An operand is often of the base, whose other limbs are 0: three products then, and not nine.
+fn ext_product(a: Ext, b: Ext) -> Ext
+    ensures { λ r. ⌜ Limbs 3 (product (a .limbs) (b .limbs)) (r .limbs) ⌝ }
+{
+    if a.limbs[1] == 0 {
+        if a.limbs[2] == 0 {
+            return ext_scaled(a.limbs[0], b);
+        }
+    }
+    if b.limbs[1] == 0 {
+        if b.limbs[2] == 0 {
+            return ext_scaled(b.limbs[0], a);
+        }
+    }
+    a.mul(b)
+}
+
 fn ext_binary(tag: u32, a: Ext, b: Ext) -> Ext
     requires { ⌜ LowLimbs (a .limbs) × LowLimbs (b .limbs) ⌝ }
     ensures { λ r. ⌜ Limbs 3 (extOp tag (a .limbs) (b .limbs)) (r .limbs) ⌝ }
@@ -294,7 +323,7 @@ fn ext_binary(tag: u32, a: Ext, b: Ext) -> Ext
     match tag {
         OP_ADD => ext_sum(a, b),
         OP_SUB => ext_difference(a, b),
-        _ => a.mul(b),
+        _ => ext_product(a, b),
     }
 }
 

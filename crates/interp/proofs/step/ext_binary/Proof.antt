@@ -12,8 +12,8 @@ ext-sum-requires c κs = search needs
 ext-difference-requires : tie.Need-ext-difference-requires
 ext-difference-requires c κs = search needs
 
-mul-requires : tie.Need-mul-requires
-mul-requires c κs = search needs
+ext-product-requires : tie.Need-ext-product-requires
+ext-product-requires c κs = search needs
 
 returns : tie.Need-returns
 unfolding extOp
@@ -25,9 +25,9 @@ returns-2 c = rw (c .before .match .keys2) (c .ext-difference .ensures)
 
 returns-3 : tie.Need-returns-3
 unfolding extOp
-returns-3 c = let q = c .before .match .rest in simp (ne-eqb _ _ (q .1), ne-eqb _ _ (q .0 .1)) (c .mul .ensures)
+returns-3 c = let q = c .before .match .rest in simp (ne-eqb _ _ (q .1), ne-eqb _ _ (q .0 .1)) (c .ext-product .ensures)
 
 pub ext-binary-spec : {M : Type 1} → statement M
 ext-binary-spec =
     tie.close
-    (tie.spec ext-sum-requires ext-difference-requires mul-requires returns returns-2 returns-3)
+    (tie.spec ext-sum-requires ext-difference-requires ext-product-requires returns returns-2 returns-3)
