@@ -78,6 +78,11 @@ leaf-entry s l tag x y n₀ n₂ =
 
 -- ---- an operation's tests
 
+pub zero-words : (a b c : ℕ) → (eqb a 0 && (eqb b 0 && eqb c 0)) ≡ true → (a ≡ 0) × (b ≡ 0) × (c ≡ 0)
+zero-words a b c h =
+    let t = and-right (eqb a 0) _ h in
+    (eqb-true a 0 (and-left (eqb a 0) _ h), eqb-true b 0 (and-left (eqb b 0) _ t), eqb-true c 0 (and-right (eqb b 0) _ t))
+
 module _ (room : List ℕ) (i tag x y dim : ℕ) where
   pub base-ok : tag < 9 → y < i → dim ≡ 0 → getD room (4 * x) 0 ≡ 0 → getD room (4 * y) 0 ≡ 0 → operandsOk room i tag x y dim ≡ true
   unfolding operandsOk

@@ -1,9 +1,10 @@
 // A trial's step: one node, tested and evaluated at once. The trial's room was cleared first, its words are below P, and the
 // frame is the prover's, where a value's class is its node's dim; each of the three saves time.
-ghost use mathlib.Core.Bool.{true, false};
+ghost use mathlib.Core.Bool.{true, false, _&&_};
 ghost use mathlib.Core.List.{List, [], _∷_};
 ghost use mathlib.Core.Path.{_≡_};
 ghost use Prim.Native.Nat.{ℕ, _+_, _*_, _<_, _≤_};
+ghost use lib.Dec.{eqb};
 ghost use lib.ListN.{length, getD};
 ghost use lib.Seq.{sets};
 ghost use Rattle.laws.specs.Lists.{tabulate};
@@ -363,6 +364,19 @@ fn step_unary(i: usize, tag: u32, x: usize, y: u32, dim: u32, room: &mut [u64]) 
     true
 }
 
+fn both(a: bool, b: bool) -> bool
+    ensures { λ r. ⌜ r ≡ (a && b) ⌝ }
+{
+    if a { b } else { false }
+}
+
+// One test of three words in the compiled code: which of them is not 0 does not matter.
+fn all_base(dim: u64, a: u64, b: u64) -> bool
+    ensures { λ r. ⌜ r ≡ (eqb dim 0 && (eqb a 0 && eqb b 0)) ⌝ }
+{
+    both(dim == BASE, both(a == BASE, b == BASE))
+}
+
 // Add, Sub or Mul: base where both operands are.
 fn step_binary(i: usize, tag: u32, x: usize, y: usize, dim: u32, room: &mut [u64]) -> bool
     requires { ⌜ (6 ≤ tag) × (tag < 9) × (x < i) × (y < i) × Clear (now room) i × LowRoom (now room) i ⌝ }
@@ -370,13 +384,7 @@ fn step_binary(i: usize, tag: u32, x: usize, y: usize, dim: u32, room: &mut [u64
 {
     let at = 4 * x;
     let to = 4 * y;
-    if dim == DIM_BASE {
-        if room[at] != BASE {
-            return false;
-        }
-        if room[to] != BASE {
-            return false;
-        }
+    if all_base(dim as u64, room[at], room[to]) {
         let v = base_operation(tag, room[at + 1], room[to + 1]);
         put_base(&mut room[..], i, v);
         return true;
