@@ -12,6 +12,7 @@ pub mod PutLaws
 pub mod ReadyLaws
 pub mod ScanLaws
 pub mod SimLaws
+pub mod Single
 pub mod SlotLaws
 pub mod StepLaws
 pub mod ValueLaws
