@@ -2,6 +2,7 @@
 pub mod BlobSingle
 pub mod FieldCallLaws
 pub mod Single
+pub mod LowerCallLaws
 pub mod PlaceLaws
 pub mod ProgramCallLaws
 pub mod ProgramSingle

@@ -1,4 +1,5 @@
 -- What the calls promise.
 pub mod BlobCalls
 pub mod FieldCalls
+pub mod LowerCalls
 pub mod ProgramCalls

@@ -2,4 +2,5 @@
 // host's memory and the library and decide nothing; every call takes every input.
 mod blob_calls;
 mod field_calls;
+mod lower_calls;
 mod program_calls;

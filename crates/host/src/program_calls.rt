@@ -29,7 +29,7 @@ fn coded(number: u8, place: usize) -> u64
     (number as u64) + 256 * ((place % 281474976710656) as u64)
 }
 
-fn coded_refusal(why: Refusal) -> u64
+pub fn coded_refusal(why: Refusal) -> u64
     ensures { λ r. ⌜ r ≡ answerOf (saidOf why) ⌝ }
 {
     match why {
@@ -61,7 +61,7 @@ pub fn coded_outcome(o: Outcome) -> u64
 }
 
 // The library's structs, from the numbers that a call is given.
-fn counts_of(n: usize, b: usize, x: usize, r: usize, leading: usize) -> Counts
+pub fn counts_of(n: usize, b: usize, x: usize, r: usize, leading: usize) -> Counts
     ensures { λ c. ⌜ c ≡ counts n b x r leading ⌝ }
 {
     Counts {

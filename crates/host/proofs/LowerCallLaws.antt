@@ -1,0 +1,51 @@
+-- The call that lowers: done and refused, and that its promise leaves one answer and one memory.
+-- Assumes nothing.
+use mathlib.Core.Bool.{cond}
+use mathlib.Core.Path.{_≡_, refl, sym, ap, _∙_}
+use Prim.Native.Nat.{ℕ}
+use lib.Dec.{eqb}
+use borrow.Author.Tests.{ne-eqb}
+use Rattle.ir.specs.declared.refusal.Refusal.{Refusal}
+use Rattle.ir.specs.Refusals.{saidOf}
+use Rattle.ir.specs.Program.{Program}
+use Rattle.ir.proofs.RefusalLaws.{refusal-number}
+use Rattle.device.specs.declared.blob.BlobCounts.{BlobCounts}
+use Rattle.lower.specs.declared.lower.Lowering.{Lowering}
+use Rattle.lower.specs.declared.lower.Lowering.the-variants.{Lowered, Refused}
+use Rattle.lower.specs.Answer.{Lists, Output, saidOfLowering, LowerAnswer}
+use Rattle.lower.proofs.Single.{lower-single}
+use Rattle.host.specs.ProgramCalls.{answerOf}
+use Rattle.host.specs.LowerCalls.{valueOnDone, CalledLower}
+
+-- a refusal writes no value
+kept : (why : Refusal) (k old : ℕ) → old ≡ valueOnDone (saidOf why) k old
+kept why k old = rw (ne-eqb (saidOf why .number) 0 (refusal-number why))
+
+module _ {P : Lowering → Type 0} {o : Lowering} {count bs xs : ℕ} (p : P o) where
+  pub lower-called : (k : BlobCounts) → o ≡ Lowered k → CalledLower P 0 count (k .nodes) bs (k .«base_slots») xs (k .«ext_slots»)
+  lower-called k e =
+      record { outcome = Lowered k; promised = rw e at p; answered = refl; counted = refl; base-slots = refl; ext-slots = refl }
+
+  pub lower-rejected : {why : Refusal} {a : ℕ} → o ≡ Refused why → a ≡ answerOf (saidOf why) → CalledLower P a count count bs bs xs xs
+  lower-rejected {why} e q =
+      record {
+        outcome = Refused why;
+        promised = rw e at p;
+        answered = q;
+        counted = kept why 0 count;
+        base-slots = kept why 5 bs;
+        ext-slots = kept why 6 xs;
+      }
+
+pub cir-lower-single : {p : Program} {b b₁ b₂ : Lists} {o o₁ o₂ : Output} {a a′ count count₁ count₂ bs bs₁ bs₂ xs xs₁ xs₂ : ℕ}
+    → CalledLower (λ w. LowerAnswer p b o w b₁ o₁) a count count₁ bs bs₁ xs xs₁ → CalledLower (λ w. LowerAnswer p b o w b₂ o₂) a′ count count₂ bs bs₂ xs xs₂
+    → (a ≡ a′) × (b₁ ≡ b₂) × (o₁ ≡ o₂) × (count₁ ≡ count₂) × (bs₁ ≡ bs₂) × (xs₁ ≡ xs₂)
+cir-lower-single {count} {bs} {xs} f g =
+    let q = lower-single (f .promised) (g .promised) in (
+      f .answered ∙ ap (λ (w : Lowering). answerOf (saidOfLowering w)) (q .0) ∙ sym (g .answered),
+      q .1,
+      q .2,
+      f .counted ∙ ap (λ (w : Lowering). valueOnDone (saidOfLowering w) 0 count) (q .0) ∙ sym (g .counted),
+      f .base-slots ∙ ap (λ (w : Lowering). valueOnDone (saidOfLowering w) 5 bs) (q .0) ∙ sym (g .base-slots),
+      f .ext-slots ∙ ap (λ (w : Lowering). valueOnDone (saidOfLowering w) 6 xs) (q .0) ∙ sym (g .ext-slots),
+    )
