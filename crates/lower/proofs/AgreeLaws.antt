@@ -18,7 +18,7 @@ use Rattle.lower.specs.Liveness.{has, operands, isUniform, Liveness, liv
 use Rattle.lower.specs.Lower.{Scan, encode, written, give, giveAll, claim, scan}
 use Rattle.lower.specs.Arrays.{bit, countBelow, listed, OperandsBelow, NodesBelow, RootsBelow, Alive, Scannable}
 use Rattle.lower.proofs.LiveLaws.{live-sound}
-use Rattle.lower.proofs.ValueLaws.{by-leaf}
+use Rattle.lower.proofs.WordLaws.{by-leaf}
 use Rattle.lower.proofs.StepLaws.{has-first, has-second}
 use Rattle.lower.proofs.ReadyLaws.{scan-skips, scan-writes, one-more}
 

@@ -31,9 +31,13 @@ lowering-back : (a : Lowering) → loweringSaid (saidOfLowering a) ≡ a
 lowering-back (Lowered c) = refl
 lowering-back (Refused r) = rw (known r .0, known r .1)
 
+-- an answer is known by what it says
+pub lowering-single : (a a′ : Lowering) → saidOfLowering a ≡ saidOfLowering a′ → a ≡ a′
+lowering-single a a′ e = sym (lowering-back a) ∙ ap loweringSaid e ∙ lowering-back a′
+
 pub lower-single : {p : Program} {b b′ b″ : Lists} {o o′ o″ : Output} {a a′ : Lowering} → LowerAnswer p b o a b′ o′ → LowerAnswer p b o a′ b″ o″ → (a ≡ a′) × (b′ ≡ b″) × (o′ ≡ o″)
 lower-single {p} {b} {b′} {b″} {o} {o′} {o″} {a} {a′} f g =
-    (sym (lowering-back a) ∙ ap loweringSaid (f .said ∙ sym (g .said)) ∙ lowering-back a′, f .lists ∙ sym (g .lists), f .wrote ∙ sym (g .wrote))
+    (lowering-single a a′ (f .said ∙ sym (g .said)), f .lists ∙ sym (g .lists), f .wrote ∙ sym (g .wrote))
 
 pub lower-in-order : (p : Program) (b : Lists) (o : Output) → inOrder (lowerRows p b o) programOrder ≡ true
 lower-in-order p b o = refl

@@ -58,3 +58,15 @@ instr-left (x ∷ xs) ys (suc i) h =
 pub instr-here : (xs : List Instr) (x : Instr) → instrAt (flat (xs ++ (x ∷ []))) (length xs) ≡ x
 instr-here [] x = refl
 instr-here (y ∷ xs) x = instr-next (y .op) (y .a) (y .b) (y .res) (flat (xs ++ (x ∷ []))) (length xs) ∙ instr-here xs x
+
+-- ---- tags
+
+-- what holds of each leaf's tag
+pub by-leaf : (P : ℕ → Type 0) → P 0 → P 1 → P 2 → P 3 → P 4 → P 5 → (k : ℕ) → k < 6 → P k
+by-leaf P a b c d e f zero h = a
+by-leaf P a b c d e f (suc zero) h = b
+by-leaf P a b c d e f (suc (suc zero)) h = c
+by-leaf P a b c d e f (suc (suc (suc zero))) h = d
+by-leaf P a b c d e f (suc (suc (suc (suc zero)))) h = e
+by-leaf P a b c d e f (suc (suc (suc (suc (suc zero))))) h = f
+by-leaf P a b c d e f (suc (suc (suc (suc (suc (suc k)))))) h = absurd (omega arith)

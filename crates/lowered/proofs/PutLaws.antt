@@ -17,10 +17,10 @@ use Rattle.interp.specs.Values.{Value, base, ext, classOf}
 use Rattle.device.specs.declared.blob.BlobCounts.{BlobCounts}
 use Rattle.device.specs.Blob.{Instr, instrAt, baseSlots, extSlots, isExt, slotOf, Form, Kind}
 use Rattle.device.specs.StepRule.{Contents, Slots, put, step, slotsAfter, rootHeld}
 use Rattle.lower.specs.Lower.{slotWord, flat}
 use Rattle.lower.proofs.SlotLaws.{upd-same, upd-other}
 use Rattle.lower.proofs.WordLaws.{base-word, ext-word, instr-left, instr-here}
-use Rattle.lower.proofs.ValueLaws.{slotAt}
+use Rattle.lowered.proofs.ValueLaws.{slotAt}
 
 -- ---- a value put into a slot
 

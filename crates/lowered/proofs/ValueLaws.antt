@@ -18,8 +18,8 @@ use Rattle.interp.specs.Values.{Value, base, ext, classOf, Leaves, toExt, binop
 use Rattle.device.specs.declared.blob.BlobCounts.{BlobCounts}
 use Rattle.device.specs.Blob.{Instr, isExt, kindOf, payloadOf, Binary, Form, binary, negation, embedding, tags, kinds}
 use Rattle.device.specs.StepRule.{Contents, Slots, onlyBase, heldBy, operand, baseOperand, extOperand, op₀, op₁, valueOf}
 use Rattle.lower.specs.Lower.{uniformKind}
-use Rattle.lower.proofs.WordLaws.{kind-of, payload-of}
+use Rattle.lower.proofs.WordLaws.{kind-of, payload-of, by-leaf}
 
 -- the plain evaluator's leaves, of what a walk reads
 abbrev pub leavesOf : {B X : Type 0} → Contents B X → Leaves B X
@@ -49,16 +49,6 @@ pub record LeafFits (c : BlobCounts) (s : Shape) (tag x y : ℕ) : Type 0 where
   pub challenge : tag ≡ 3 → (x < s .challenges) × (y ≡ 0)
   pub alpha : tag ≡ 4 → (x < s .alphas) × (y ≡ 0)
   pub table-offset : tag ≡ 5 → (x ≡ 0) × (y ≡ 0)
-
--- what holds of each leaf's tag
-pub by-leaf : (P : ℕ → Type 0) → P 0 → P 1 → P 2 → P 3 → P 4 → P 5 → (k : ℕ) → k < 6 → P k
-by-leaf P a b c d e f zero h = a
-by-leaf P a b c d e f (suc zero) h = b
-by-leaf P a b c d e f (suc (suc zero)) h = c
-by-leaf P a b c d e f (suc (suc (suc zero))) h = d
-by-leaf P a b c d e f (suc (suc (suc (suc zero)))) h = e
-by-leaf P a b c d e f (suc (suc (suc (suc (suc zero))))) h = f
-by-leaf P a b c d e f (suc (suc (suc (suc (suc (suc k)))))) h = absurd (omega arith)
 
 module _ {B X : Type 0} (K : Tower B X) (u : Contents B X) (c : BlobCounts) (s : Shape) (m : Slots B X) where
   -- an operand by its slot

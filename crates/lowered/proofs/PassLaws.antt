@@ -32,12 +32,13 @@ use Rattle.device.specs.Blob.{Blob, instrAt, isExt, tags, kinds}
 use Rattle.device.specs.StepRule.{Contents, Slots, step, slotsAfter, rootHeld, rootValue, stopsAt}
 use Rattle.device.specs.Check.{legalRows}
 use Rattle.device.proofs.Theorem.{passes}
 use Rattle.lower.specs.Liveness.{Liveness, Sound}
 use Rattle.lower.specs.Lower.{Lowered, scan, flat, slotWord, rootWord, lowered, blobOf}
 use Rattle.lower.proofs.ScanLaws.{root-held}
-use Rattle.lower.proofs.ValueLaws.{leavesOf}
-use Rattle.lower.proofs.PutLaws.{word-class}
-use Rattle.lower.proofs.SimLaws.{Fits, walked, dim-low, slot-low}
+use Rattle.lowered.proofs.ValueLaws.{leavesOf}
+use Rattle.lowered.proofs.PutLaws.{word-class}
+use Rattle.lowered.proofs.SameLaws.{slots-same}
+use Rattle.lowered.proofs.SimLaws.{Fits, walked, dim-low, slot-low}
 
 -- where the slots after n nodes are there, so are those after fewer
 module _ {B X : Type 0} (f : ℕ → Option (Slots B X)) (g : ℕ → Slots B X → Option (Slots B X)) (more : (i : ℕ) → f (suc i) ≡ after (f i) (g i)) where
@@ -47,25 +48,32 @@ module _ {B X : Type 0} (f : ℕ → Option (Slots B X)) (g : ℕ → Slots B X 
       by-cases (ℕ-discrete i (suc n)) (λ q. rw (q, e) refl)
       λ q. let z = after-some (f n) (g n) (sym (more n) ∙ e) in earlier n i (z .0) (z .1) (omega arith)
 
+-- tables that begin with the words of what was lowered
+pub record Begin (c : Counts) (made : Lowered) (table ends : List ℕ) : Type 0 where
+  pub node : (i : ℕ) → i < made .count → instrAt table i ≡ instrAt (made .nodes) i
+  pub root : (r : ℕ) → r < c .roots → getD ends r 0 ≡ getD (made .roots) r 0
+
 module _ {B X : Type 0} (K : Tower B X) (u : Contents B X) (c : Counts) (nodes roots bases exts : List ℕ) (s : Shape) (v : Liveness)
-    (wf : WellFormed c nodes roots) (sound : Sound c nodes roots v) where
+    (wf : WellFormed c nodes roots) (sound : Sound c nodes roots v) (table ends : List ℕ) where
   abbrev pub made : Lowered
   made = lowered c nodes roots bases exts v
 
   abbrev pub blob : Blob
-  blob = blobOf c made
+  blob = record { counts = blobOf c made .counts; nodes = table; roots = ends }
 
-  module _ (fits : Fits c nodes v (blob .counts) s) (leading-base : (r : ℕ) → r < c .roots → r < numBase c → nodeAt nodes (getD roots r 0) .dim ≡ 0) where
+  module _ (begin : Begin c made table ends) (fits : Fits c nodes v (blob .counts) s) (leading-base : (r : ℕ) → r < c .roots → r < numBase c → nodeAt nodes (getD roots r 0) .dim ≡ 0) where
     -- the slots when all nodes are walked
-    abbrev final : Slots B X
+    abbrev pub final : Slots B X
     final = walked K u c nodes roots s v (blob .counts) wf sound fits .0
 
     root-at : (r : ℕ) → r < c .roots → getD (blob .roots) r 0 ≡ rootWord nodes ((scan nodes v (c .nodes)) .slot) (getD roots r 0)
-    root-at r h = tabulate-at (c .roots) (λ k. rootWord nodes ((scan nodes v (c .nodes)) .slot) (getD roots k 0)) r h
+    root-at r h = begin .root r h ∙ tabulate-at (c .roots) (λ k. rootWord nodes ((scan nodes v (c .nodes)) .slot) (getD roots k 0)) r h
 
     -- the slots at the end, and what each root names there
     pub end-slots : slotsAfter K tags kinds (blob .counts) s u (blob .nodes) (blob .counts .nodes) ≡ some final
-    end-slots = walked K u c nodes roots s v (blob .counts) wf sound fits .1
+    end-slots =
+        slots-same K tags kinds (blob .counts) s u table (made .nodes) (blob .counts .nodes) (begin .node)
+        ∙ walked K u c nodes roots s v (blob .counts) wf sound fits .1
 
     pub end-root : (r : ℕ) → r < c .roots → rootHeld final (getD (blob .roots) r 0) ≡ some (valueAt K (leavesOf u) nodes (getD roots r 0))
     end-root r h = ap (rootHeld final) (root-at r h) ∙ walked K u c nodes roots s v (blob .counts) wf sound fits .2 r h

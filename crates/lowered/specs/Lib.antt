@@ -1,0 +1,2 @@
+-- The statement that joins lowering, check, walk and evaluator.
+pub mod Faithful

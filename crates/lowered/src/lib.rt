@@ -1,0 +1,1 @@
+// The theorem that joins lowering, check, walk and evaluator. There is no code here.
