@@ -1,6 +1,5 @@
 -- What the contracts of the field cite, the marked sums, and the tower.
 pub mod Base
 pub mod Ext
-pub mod Sums
 pub mod Tower
 pub mod Wide

@@ -25,7 +25,7 @@ fn extension(name: &[u8], x: Ext) {
     io::write_all(STDOUT_FILENO, b"\n");
 }
 
-// The rows that document 01 marks, in the order of the table in the field's specs/Sums.
+// The rows of the field that document 01 marks, in the order of the table in crates/lowered/specs/Marked.antt.
 fn marked() {
     base(b"(p-1)(p-1)", Fp::mul(Fp::P - 1, Fp::P - 1));
     base(b"2^32 2^32", Fp::mul(0x1_0000_0000, 0x1_0000_0000));

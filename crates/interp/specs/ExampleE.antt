@@ -19,7 +19,7 @@ use Rattle.interp.specs.Evals.{baseEvals, extEvals}
 use Rattle.interp.specs.Evaluation.{shortFrame, shortMemory, shortEvals, extRoot, proverRows, lengths}
 
 -- the nodes that the builder makes of E: node 0 is the constant 0
-pub nodes : List ℕ
+unfoldable pub nodes : List ℕ
 nodes =
     0 ∷ 0 ∷ 0 ∷ 0
     ∷ 2 ∷ 0 ∷ 65536 ∷ 0
@@ -34,38 +34,38 @@ nodes =
     ∷ []
 
 -- and its roots
-pub roots : List ℕ
+unfoldable pub roots : List ℕ
 roots = 5 ∷ 9 ∷ []
 
 -- main cells 5 and 9, aux cell (0, 2) with limbs 1, 2, 3, challenge (4, 5, 6)
-pub frame : Lent
+unfoldable pub frame : Lent
 frame =
     lent (0 ∷ 1 ∷ []) [] (5 ∷ 9 ∷ [])
     (0 ∷ 0 ∷ 0 ∷ 0 ∷ 0 ∷ 0 ∷ 1 ∷ 2 ∷ 3 ∷ 0 ∷ 0 ∷ 0 ∷ 0 ∷ 0 ∷ 0 ∷ 0 ∷ 0 ∷ 0 ∷ [])
     (4 ∷ 5 ∷ 6 ∷ []) [] (0 ∷ 0 ∷ 0 ∷ [])
 
 -- two base constants, no extension constant, and one leading constraint that is base
-pub counts : Counts
+unfoldable pub counts : Counts
 counts = record { nodes = 10; bases = 2; exts = 0; roots = 2; «num_base» = 1 }
 
 -- two steps of one main and three aux columns, one challenge
-pub shape : Shape
+unfoldable pub shape : Shape
 shape = record { steps = 2; main = 1; aux = 3; challenges = 1; alphas = 0 }
 
 -- what is lent for writing: base_evals, ext_evals, and a room of four words a node
-pub base : List ℕ
+unfoldable pub base : List ℕ
 base = 7 ∷ []
 
-pub ext : List ℕ
+unfoldable pub ext : List ℕ
 ext = 11 ∷ 12 ∷ 13 ∷ 14 ∷ 15 ∷ 16 ∷ []
 
-pub room : List ℕ
+unfoldable pub room : List ℕ
 room = replicate 40 0
 
 -- ---- no refusal
 
 -- as the check is given it
-pub program : Program
+unfoldable pub program : Program
 program = record { counts = counts; nodes = nodes; bases = frame .bases; exts = frame .exts; roots = roots }
 
 -- the check answers 0
@@ -84,17 +84,5 @@ evaluation-done = refl
 
 -- ---- the values
 
-pub env : ℕ → Value ℕ (List ℕ)
+unfoldable pub env : ℕ → Value ℕ (List ℕ)
 env = values goldilocks (leaves (proverStrides shape) frame) nodes (counts .nodes)
-
--- rows of computed words and expected words: base_evals, and ext_evals, whose first three words stay as they were
-pub marked : List (List ℕ × List ℕ)
-marked =
-    (baseEvals env roots (numBase counts) (counts .roots) base, 3 ∷ [])
-    ∷ (extEvals env roots (numBase counts) (counts .roots) ext, 11 ∷ 12 ∷ 13 ∷ 61 ∷ 49 ∷ 28 ∷ [])
-    ∷ []
-
--- all rows at once
-pub marked-hold : map (λ (row : List ℕ × List ℕ). row .0) marked ≡ map (λ (row : List ℕ × List ℕ). row .1) marked
-unfolding marked env counts shape frame base ext roots nodes baseEvals extEvals values nodeValue leafValue operationValue upd remainders sums minuses embedded product
-marked-hold = refl

@@ -1,6 +1,5 @@
 -- What lowering makes of a program.
 pub mod Answer
 pub mod Arrays
-pub mod ExampleE
 pub mod Liveness
 pub mod Lower

@@ -9,17 +9,15 @@ use Rattle.laws.specs.Folds.{lowest}
 use Rattle.laws.specs.Maps.{upd}
 use Rattle.field.specs.Ext.{sums, minuses, embedded, product}
 use Rattle.field.specs.Tower.{goldilocks, remainders}
-use Rattle.ir.specs.declared.frame.Shape.{Shape}
 use Rattle.ir.specs.Shape.{overShape}
 use Rattle.ir.specs.Refusals.{Said, first, gives}
-use Rattle.interp.specs.Frame.{Lent, lent}
-use Rattle.interp.specs.Evals.{baseEvals, extEvals}
+use Rattle.interp.specs.ExampleE.{shape, frame}
 use Rattle.device.specs.Blob.{Blob, tags, kinds}
 use Rattle.device.specs.StepRule.{Slots, baseOperand, extOperand, step, slotsAfter}
 use Rattle.device.specs.Check.{operandOk, cellOk, nodeOk, filledAfter, illegal, extRoot, shortCheck, checkRows}
 use Rattle.walk.specs.Slots.{heldWord, heldLimbs}
 use Rattle.walk.specs.Trace.{contents}
-use Rattle.walk.specs.Walk.{slotsOr, rootValues}
+use Rattle.walk.specs.Walk.{slotsOr}
 
 -- the listing of document 01: seven nodes, two constants, two roots, num_base 1, two base slots and one extension slot
 pub blob : Blob
@@ -37,17 +35,6 @@ blob =
           ∷ [];
       roots = 0 ∷ 2147483648 ∷ [];
     }
-
--- two steps of one main and three aux columns, one challenge
-pub shape : Shape
-shape = record { steps = 2; main = 1; aux = 3; challenges = 1; alphas = 0 }
-
--- main cells 5 and 9, aux cell (0, 2) with limbs 1, 2, 3, challenge (4, 5, 6)
-pub frame : Lent
-frame =
-    lent (0 ∷ 1 ∷ []) [] (5 ∷ 9 ∷ [])
-    (0 ∷ 0 ∷ 0 ∷ 0 ∷ 0 ∷ 0 ∷ 1 ∷ 2 ∷ 3 ∷ 0 ∷ 0 ∷ 0 ∷ 0 ∷ 0 ∷ 0 ∷ 0 ∷ 0 ∷ 0 ∷ [])
-    (4 ∷ 5 ∷ 6 ∷ []) [] (0 ∷ 0 ∷ 0 ∷ [])
 
 -- base slots 0 and 1 and extension slot 0 after i nodes, 0 for an empty one
 pub slotsAt : ℕ → List (List ℕ)
@@ -73,15 +60,3 @@ slots-hold = refl
 pub passes : first (checkRows blob shape 3) (gives []) ≡ gives []
 unfolding blob shape overShape shortCheck illegal extRoot lowest nodeOk operandOk cellOk filledAfter upd
 passes = refl
-
--- rows of computed words and expected words: base_evals, and ext_evals, whose first three words stay as they were
-pub marked : List (List ℕ × List ℕ)
-marked =
-    (baseEvals (rootValues blob shape frame) (blob .roots) 1 2 (7 ∷ []), 3 ∷ [])
-    ∷ (extEvals (rootValues blob shape frame) (blob .roots) 1 2 (11 ∷ 12 ∷ 13 ∷ 14 ∷ 15 ∷ 16 ∷ []), 11 ∷ 12 ∷ 13 ∷ 61 ∷ 49 ∷ 28 ∷ [])
-    ∷ []
-
--- all rows at once
-pub marked-hold : map (λ (row : List ℕ × List ℕ). row .0) marked ≡ map (λ (row : List ℕ × List ℕ). row .1) marked
-unfolding marked blob shape frame slotsAfter step baseOperand extOperand baseEvals extEvals upd remainders sums minuses embedded product
-marked-hold = refl
