@@ -23,7 +23,7 @@ use Rattle.lower.specs.declared.lower.Lowering.{Lowering}
 use Rattle.lower.specs.declared.lower.Lowering.the-variants.{Lowered, Refused}
 use Rattle.lower.specs.Lower.{blobOf}
 use Rattle.lower.specs.Answer.{Lists, Output, lowering, shortLists, shortOutput, countsOf, lowerSaid, saidOfLowering, emptied, written, LowerAnswer}
-use Rattle.lower.specs.Arrays.{LowerOk, WordsAnswer}
+use Rattle.lower.specs.Inner.{LowerOk, WordsAnswer}
 use Rattle.lower.proofs.EndLaws.{Exact, zeros}
 
 -- the parts of the lists that n nodes need

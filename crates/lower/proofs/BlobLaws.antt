@@ -12,14 +12,16 @@ use Rattle.field.specs.Base.{p}
 use Rattle.ir.specs.declared.program.Counts.{Counts}
 use Rattle.ir.specs.Words.{Node, nodeAt}
 use Rattle.ir.specs.WellFormed.{WellFormed}
-use Rattle.lower.specs.Liveness.{Liveness, live}
-use Rattle.lower.specs.Lower.{Scan, scan, flat, rootWord, Lowered, lowered}
+use Rattle.scan.specs.Liveness.{Liveness, live}
+use Rattle.scan.specs.Scan.{Scan, scan, flat}
+use Rattle.lower.specs.Lower.{rootWord, Lowered, lowered}
 use Rattle.lower.specs.Answer.{Output, over, written}
-use Rattle.lower.specs.Arrays.{Tab, listed, Alive, Begins, Scanned, ClassOk, RootOk, RootsOk, WriteOk, BlobWritten}
-use Rattle.lower.proofs.LiveLaws.{live-sound}
-use Rattle.lower.proofs.ScanLaws.{scan-kept, root-held, next-le}
-use Rattle.lower.proofs.WordLaws.{flat-length}
-use Rattle.lower.proofs.AgreeLaws.{Agree, agree, scannable, scan-same, out-count, operand-before, dim-two}
+use Rattle.scan.specs.Arrays.{Tab, listed, Alive, Begins, Scanned, ClassOk}
+use Rattle.lower.specs.Inner.{RootOk, RootsOk, WriteOk, BlobWritten}
+use Rattle.scan.proofs.LiveLaws.{live-sound}
+use Rattle.scan.proofs.ScanLaws.{scan-kept, root-held, next-le}
+use Rattle.scan.proofs.WordLaws.{flat-length}
+use Rattle.scan.proofs.AgreeLaws.{Agree, agree, scannable, scan-same, out-count, operand-before, dim-two}
 
 -- words in a row over what was there
 over-rows : (k : ℕ) (f : ℕ → ℕ) (old : List ℕ) → tabulate k f ++ drop k old ≡ over (tabulate k f) old

@@ -17,12 +17,14 @@ use Rattle.device.specs.declared.blob.BlobCounts.{BlobCounts}
 use Rattle.device.specs.Check.{cleared}
 use Rattle.lower.specs.declared.lower.Lowering.{Lowering}
 use Rattle.lower.specs.declared.lower.Lowering.the-variants.{Lowered, Refused}
-use Rattle.lower.specs.Liveness.{live}
-use Rattle.lower.specs.Lower.{scan, flat, blobOf}
+use Rattle.scan.specs.Liveness.{live}
+use Rattle.scan.specs.Scan.{scan, flat}
+use Rattle.lower.specs.Lower.{blobOf}
 use Rattle.lower.specs.Answer.{Lists, Output, lowering, shortOutput, countsOf, saidOfLowering, emptied, written}
-use Rattle.lower.specs.Arrays.{busy, LiveOk, Alive, WriteOk, BlobWritten, ListsLong, CountsOk, LowerOk, WordsAnswer}
-use Rattle.lower.proofs.WordLaws.{flat-length}
-use Rattle.lower.proofs.AgreeLaws.{out-count, nodes-below, roots-below}
+use Rattle.scan.specs.Arrays.{busy, LiveOk, Alive}
+use Rattle.lower.specs.Inner.{WriteOk, BlobWritten, ListsLong, CountsOk, LowerOk, WordsAnswer}
+use Rattle.scan.proofs.WordLaws.{flat-length}
+use Rattle.scan.proofs.AgreeLaws.{out-count, nodes-below, roots-below}
 
 -- ---- lists of 0
 

@@ -14,7 +14,7 @@ use Rattle.device.specs.Blob.{Blob}
 use Rattle.device.specs.Check.{cleared}
 use Rattle.lower.specs.declared.lower.Lowering.{Lowering}
 use Rattle.lower.specs.declared.lower.Lowering.the-variants.{Lowered, Refused}
-use Rattle.lower.specs.Liveness.{live}
+use Rattle.scan.specs.Liveness.{live}
 use Rattle.lower.specs.Lower as Lower
 
 -- the words that lowering borrows, six a node

@@ -1,5 +1,4 @@
 -- What lowering makes of a program.
 pub mod Answer
-pub mod Arrays
-pub mod Liveness
+pub mod Inner
 pub mod Lower

@@ -1,4 +1,2 @@
 // Lowering, after device.rs.
-pub mod liveness;
 pub mod lower;
-pub mod scan;

@@ -30,7 +30,7 @@ use Rattle.interp.specs.Frame.{Lent, word, triple, leaves, outside, cellOutside
 use Rattle.device.specs.declared.blob.BlobCounts.{BlobCounts}
 use Rattle.walk.specs.Trace.{rowAt, contents}
 use Rattle.lower.specs.Answer.{over}
-use Rattle.lower.proofs.WordLaws.{by-leaf}
+use Rattle.scan.proofs.WordLaws.{by-leaf}
 use Rattle.lowered.specs.Faithful.{withConstants}
 use Rattle.lowered.proofs.ValueLaws.{leavesOf, LeafFits}
 use Rattle.lowered.proofs.SameLaws.{over-at}

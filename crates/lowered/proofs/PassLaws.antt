@@ -32,9 +32,10 @@ use Rattle.device.specs.Blob.{Blob, instrAt, isExt, tags, kinds}
 use Rattle.device.specs.StepRule.{Contents, Slots, step, slotsAfter, rootHeld, rootValue, stopsAt}
 use Rattle.device.specs.Check.{legalRows}
 use Rattle.device.proofs.Theorem.{passes}
-use Rattle.lower.specs.Liveness.{Liveness, Sound}
-use Rattle.lower.specs.Lower.{Lowered, scan, flat, slotWord, rootWord, lowered, blobOf}
-use Rattle.lower.proofs.ScanLaws.{root-held}
+use Rattle.scan.specs.Liveness.{Liveness, Sound}
+use Rattle.scan.specs.Scan.{scan, flat, slotWord}
+use Rattle.lower.specs.Lower.{Lowered, rootWord, lowered, blobOf}
+use Rattle.scan.proofs.ScanLaws.{root-held}
 use Rattle.lowered.proofs.ValueLaws.{leavesOf}
 use Rattle.lowered.proofs.PutLaws.{word-class}
 use Rattle.lowered.proofs.SameLaws.{slots-same}

@@ -25,10 +25,11 @@ use Rattle.device.specs.declared.blob.BlobCounts.{BlobCounts}
 use Rattle.device.specs.Blob.{Instr, isExt, Binary, plus, minus, times, binary, tags, kinds}
 use Rattle.device.specs.StepRule.{Contents, Slots, operand, op₀, op₁, valueOf, step, slotsAfter, rootHeld}
 use Rattle.device.proofs.Theorem.{by-operation}
-use Rattle.lower.specs.Liveness.{has, operands, isUniform, Liveness, Sound}
-use Rattle.lower.specs.Lower.{Scan, pick, more, slotWord, uniformKind, encode, written, giveAll, claim, scan, flat, rootWord}
-use Rattle.lower.proofs.SlotLaws.{upd-case, kept, Good, pick-unheld}
-use Rattle.lower.proofs.ScanLaws.{cond-case, not-true, given, give-all, given-keeps, freed, taken, Kept, freed-kept, scan-kept, taken-low, next-mono, next-le, operand-held, root-held}
+use Rattle.scan.specs.Liveness.{has, operands, isUniform, Liveness, Sound}
+use Rattle.scan.specs.Scan.{Scan, pick, more, slotWord, uniformKind, encode, written, giveAll, claim, scan, flat}
+use Rattle.lower.specs.Lower.{rootWord}
+use Rattle.scan.proofs.SlotLaws.{upd-case, kept, Good, pick-unheld}
+use Rattle.scan.proofs.ScanLaws.{cond-case, not-true, given, give-all, given-keeps, freed, taken, Kept, freed-kept, scan-kept, taken-low, next-mono, next-le, operand-held, root-held}
 use Rattle.lowered.proofs.ValueLaws.{leavesOf, LeafFits, slotAt, by-slot, by-name, leaf-written, binary-written, negation-written, embedding-written}
 use Rattle.lowered.proofs.PutLaws.{putAt, roomOf, word-class, put-lands, put-same, put-other, root-word, slots-snoc}
 

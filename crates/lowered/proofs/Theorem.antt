@@ -42,13 +42,14 @@ use Rattle.walk.specs.Trace.{contents}
 use Rattle.walk.specs.Walk.{shortFrame, shortWalk, shortEvals, frameLengths, memoryRows, walkRows, valueOr, slotsOr, finalSlots, rootValues, WalkAnswer}
 use Rattle.lower.specs.declared.lower.Lowering.{Lowering}
 use Rattle.lower.specs.declared.lower.Lowering.the-variants.{Lowered}
-use Rattle.lower.specs.Liveness.{Liveness, live}
-use Rattle.lower.specs.Lower.{scan, flat, lowered, blobOf}
+use Rattle.scan.specs.Liveness.{Liveness, live}
+use Rattle.scan.specs.Scan.{scan, flat}
+use Rattle.lower.specs.Lower.{lowered, blobOf}
 use Rattle.lower.specs.Lower as Lower
 use Rattle.lower.specs.Answer.{Lists, Output, lowering, shortLists, shortOutput, lowerRows, lowerSaid, saidOfLowering, countsOf, over, written, LowerAnswer}
-use Rattle.lower.proofs.LiveLaws.{live-sound}
+use Rattle.scan.proofs.LiveLaws.{live-sound}
 use Rattle.lower.proofs.Single.{lowering-single}
-use Rattle.lower.proofs.WordLaws.{flat-length}
+use Rattle.scan.proofs.WordLaws.{flat-length}
 use Rattle.lowered.specs.Faithful.{blobIn, withConstants, Faithful}
 use Rattle.lowered.proofs.LeafLaws.{leaf-fits, leaf-same}
 use Rattle.lowered.proofs.PassLaws.{Begin, final, end-slots, end-root, check-passes}

@@ -18,8 +18,8 @@ use Rattle.interp.specs.Values.{Value, base, ext, classOf, Leaves, toExt, binop
 use Rattle.device.specs.declared.blob.BlobCounts.{BlobCounts}
 use Rattle.device.specs.Blob.{Instr, isExt, kindOf, payloadOf, Binary, Form, binary, negation, embedding, tags, kinds}
 use Rattle.device.specs.StepRule.{Contents, Slots, onlyBase, heldBy, operand, baseOperand, extOperand, op₀, op₁, valueOf}
-use Rattle.lower.specs.Lower.{uniformKind}
-use Rattle.lower.proofs.WordLaws.{kind-of, payload-of, by-leaf}
+use Rattle.scan.specs.Scan.{uniformKind}
+use Rattle.scan.proofs.WordLaws.{kind-of, payload-of, by-leaf}
 
 -- the plain evaluator's leaves, of what a walk reads
 abbrev pub leavesOf : {B X : Type 0} → Contents B X → Leaves B X

@@ -7,7 +7,7 @@ use Rattle.lower.proofs.lower.lower_words.Statement.{statement}
 use Rattle.lower.proofs.lower.lower_words.Tie as tie
 use Rattle.lower.proofs.lower.lower_words.Reads as reads
 use Rattle.lower.proofs.lower.lower_words.Lts as lts
-use Rattle.lower.proofs.liveness.mark_live.Reads as mark-live-reads
+use Rattle.scan.proofs.liveness.mark_live.Reads as mark-live-reads
 use Rattle.lower.proofs.lower.clear_lists.Reads as clear-lists-reads
 use Rattle.lower.proofs.lower.counts_of.Reads as counts-of-reads
 use Rattle.lower.proofs.lower.short_output.Reads as short-output-reads

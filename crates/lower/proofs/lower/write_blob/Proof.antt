@@ -9,7 +9,7 @@ use Rattle.lower.proofs.lower.write_blob.Reads as reads
 use Rattle.lower.proofs.lower.write_blob.Lts as lts
 use Rattle.lower.proofs.lower.copy_constants.Reads as copy-constants-reads
 use Rattle.lower.proofs.lower.write_roots.Reads as write-roots-reads
-use Rattle.lower.proofs.scan.scan_nodes.Reads as scan-nodes-reads
+use Rattle.scan.proofs.scan.scan_nodes.Reads as scan-nodes-reads
 
 -- src/lower.rt:98:9
 scan-nodes-requires : tie.Need-scan-nodes-requires

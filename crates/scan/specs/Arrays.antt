@@ -1,0 +1,263 @@
+-- How the lent lists stand for liveness and scan: for inner functions, no public promise cites it.
+-- Assumes nothing.
+use mathlib.Core.Bool.{Bool, true, false, cond, not, _&&_, _||_}
+use mathlib.Core.List.{List, [], _∷_, _++_}
+use mathlib.Core.Path.{_≡_}
+use Prim.Native.Nat.{ℕ, zero, suc, _+_, _*_, _<_, _≤_}
+use lib.Dec.{eqb, ltb}
+use lib.ListN.{length, getD, set, drop}
+use lib.Seq.{sets}
+use Rattle.laws.specs.Folds.{anyBelow}
+use Rattle.ir.specs.declared.program.Counts.{Counts}
+use Rattle.ir.specs.Words.{Node, nodeAt, var, add, neg}
+use Rattle.device.specs.Blob.{Instr}
+use Rattle.scan.specs.Liveness.{has, operands, isUniform, readsOf, isRoot, lastBy, Liveness, live}
+use Rattle.scan.specs.Scan.{Scan, pick, left, more, slotWord, encode, written, give, giveAll, claim, scan, flat}
+
+-- the first n words of a list are the map's
+abbrev pub Tab : List ℕ → ℕ → (ℕ → ℕ) → Type 0
+Tab l n f = (j : ℕ) → j < n → getD l j 0 ≡ f j
+
+-- a truth as a word
+abbrev pub bit : Bool → ℕ
+bit b = cond b 1 0
+
+-- ---- liveness
+
+-- how many words of a list are not 0
+unfoldable pub busy : List ℕ → ℕ
+busy [] = 0
+busy (x ∷ l) = cond (eqb x 0) (busy l) (suc (busy l))
+
+-- what is known after the first k nodes: whether one of them reads node j, and the last that does
+pub record Readers (nodes : List ℕ) (k n : ℕ) (used last : List ℕ) : Type 0 where
+  pub used-long : length used ≡ n
+  pub last-long : length last ≡ n
+  pub reads : Tab used n (λ j. bit (anyBelow (readsOf nodes j) k))
+  pub lasts : Tab last n (lastBy nodes k)
+
+-- a node's operands are places of a list
+pub record OperandsBelow (tag x y n : ℕ) : Type 0 where
+  pub first : add ≤ tag → x < n
+  pub second : add ≤ tag → tag < neg → y < n
+
+-- the words of n nodes, whose operands are among them
+pub record NodesBelow (nodes : List ℕ) (n : ℕ) : Type 0 where
+  pub nodes-long : 4 * n ≤ length nodes
+  pub node : (i : ℕ) → i < n → OperandsBelow (nodeAt nodes i .tag) (nodeAt nodes i .x) (nodeAt nodes i .y) n
+
+-- what a node adds: its operands are read, and it is the last that reads them so far
+pub record NodeMarked (i tag x y : ℕ) (used last used′ last′ : List ℕ) : Type 0 where
+  pub used-long : length used′ ≡ length used
+  pub last-long : length last′ ≡ length last
+  pub reads : (j : ℕ) → getD used′ j 0 ≡ cond (has j (operands (record { tag = tag; x = x; y = y; dim = 0 }))) 1 (getD used j 0)
+  pub lasts : (j : ℕ) → getD last′ j 0 ≡ cond (has j (operands (record { tag = tag; x = x; y = y; dim = 0 }))) i (getD last j 0)
+
+-- each root is one of n nodes
+pub record RootsBelow (roots : List ℕ) (count n : ℕ) : Type 0 where
+  pub roots-long : count ≤ length roots
+  pub below : (r : ℕ) → r < count → getD roots r 0 < n
+
+-- the nodes that the first k roots name
+abbrev pub Rooted : List ℕ → ℕ → ℕ → List ℕ → Type 0
+Rooted roots k n is-root = (length is-root ≡ n) × Tab is-root n (λ j. bit (anyBelow (λ r. eqb (getD roots r 0) j) k))
+
+-- whether a node gets a slot, by its tag and its words of use and root
+abbrev pub emitsWord : (tag used root : ℕ) → Bool
+emitsWord tag used root =
+    let r = not (eqb root 0) in
+    (not (eqb used 0) || r) && (not (ltb tag add && not (eqb tag var)) || r)
+
+-- how many of the numbers below k pass a test
+unfoldable pub countBelow : (ℕ → Bool) → ℕ → ℕ
+countBelow t zero = 0
+countBelow t (suc k) = countBelow t k + bit (t k)
+
+-- the first i words of use have become words of emission, and so many are emitted
+pub record Emits (i : ℕ) (nodes root old new : List ℕ) (count : ℕ) : Type 0 where
+  pub long : length new ≡ length old
+  pub done : (j : ℕ) → j < i → getD new j 0 ≡ bit (emitsWord (nodeAt nodes j .tag) (getD old j 0) (getD root j 0))
+  pub rest : (j : ℕ) → i ≤ j → getD new j 0 ≡ getD old j 0
+  pub counted : count ≡ countBelow (λ j. emitsWord (nodeAt nodes j .tag) (getD old j 0) (getD root j 0)) i
+  pub few : count ≤ i
+
+-- a program whose liveness can be marked on lists of 0
+pub record LiveOk (c : Counts) (nodes roots used last pinned : List ℕ) : Type 0 where
+  pub few : c .nodes < 536870912
+  pub nodes-ok : NodesBelow nodes (c .nodes)
+  pub roots-ok : RootsBelow roots (c .roots) (c .nodes)
+  pub long : (length used ≡ c .nodes) × (length last ≡ c .nodes) × (length pinned ≡ c .nodes)
+  pub clear : (busy used ≡ 0) × (busy last ≡ 0) × (busy pinned ≡ 0)
+
+-- the lists stand for document 01's liveness
+pub record Alive (c : Counts) (nodes roots emitted last pinned : List ℕ) (count : ℕ) : Type 0 where
+  pub long : (length emitted ≡ c .nodes) × (length last ≡ c .nodes) × (length pinned ≡ c .nodes)
+  pub emits : Tab emitted (c .nodes) (λ j. bit (live c nodes roots .emitted j))
+  pub lasts : Tab last (c .nodes) (lastBy nodes (c .nodes))
+  pub pins : Tab pinned (c .nodes) (λ j. bit (isRoot c roots j))
+  pub counted : count ≡ countBelow (live c nodes roots .emitted) (c .nodes)
+  pub few : count ≤ c .nodes
+
+-- the liveness that three lists say
+abbrev pub listed : (emitted last pinned : List ℕ) → Liveness
+listed emitted last pinned =
+    record {
+      emitted = λ j. not (eqb (getD emitted j 0) 0);
+      lastUse = λ j. getD last j 0;
+      pinned = λ j. not (eqb (getD pinned j 0) 0);
+    }
+
+-- ---- the scan
+
+-- the free slots of class c, of which there are k: each at every other place from c on, the last freed first
+unfoldable pub stack : List ℕ → ℕ → ℕ → List ℕ
+stack l c zero = []
+stack l c (suc k) = getD l (2 * k + c) 0 ∷ stack l c k
+
+-- the slots that are held or free
+abbrev pub slotsIn : (slot tops : List ℕ) → ℕ
+slotsIn slot tops = busy slot + (getD tops 0 0 + getD tops 1 0)
+
+-- the lists stand for a state of the scan
+pub record Stands (n : ℕ) (slot free tops next : List ℕ) (s : Scan) : Type 0 where
+  pub slot-long : length slot ≡ n
+  pub free-long : length free ≡ 2 * n
+  pub pairs : (length tops ≡ 2) × (length next ≡ 2)
+  pub slots : Tab slot n (s .slot)
+  pub frees : (c : ℕ) → c < 2 → stack free c (getD tops c 0) ≡ s .free c
+  pub nexts : (c : ℕ) → c < 2 → getD next c 0 ≡ s .next c
+
+-- node j's words are there, and its class is one
+pub record ClassOk (nodes : List ℕ) (j : ℕ) : Type 0 where
+  pub long : 4 * j + 4 ≤ length nodes
+  pub dim : nodeAt nodes j .dim < 2
+
+-- a class's slot can be taken
+pub record TakeOk (class : ℕ) (free tops next : List ℕ) : Type 0 where
+  pub known : class < 2
+  pub pairs : (length tops ≡ 2) × (length next ≡ 2)
+  pub room : 2 * getD tops class 0 ≤ length free
+  pub few : getD next class 0 < 536870912
+
+-- a slot is taken: the others of its class, and those of the other class, stay
+pub record Takes (class : ℕ) (free tops next : List ℕ) (k : ℕ) (tops′ next′ : List ℕ) : Type 0 where
+  pub picked : k ≡ pick (stack free class (getD tops class 0)) (getD next class 0)
+  pub rest : stack free class (getD tops′ class 0) ≡ left (stack free class (getD tops class 0))
+  pub count : getD next′ class 0 ≡ more (stack free class (getD tops class 0)) (getD next class 0)
+  pub other-tops : (c : ℕ) → (c ≡ class → ⊥) → getD tops′ c 0 ≡ getD tops c 0
+  pub other-next : (c : ℕ) → (c ≡ class → ⊥) → getD next′ c 0 ≡ getD next c 0
+  pub fewer : getD tops′ class 0 ≤ getD tops class 0
+  pub pairs : (length tops′ ≡ 2) × (length next′ ≡ 2)
+
+-- a slot of a class can be pushed
+pub record PushOk (class : ℕ) (free tops : List ℕ) : Type 0 where
+  pub known : class < 2
+  pub pair : length tops ≡ 2
+  pub room : 2 * getD tops class 0 + class < length free
+
+-- operand j can give its slot back
+pub record GiveOk (j : ℕ) (nodes last pinned slot free tops next : List ℕ) : Type 0 where
+  pub place : j < length slot
+  pub last-long : length last ≡ length slot
+  pub pinned-long : length pinned ≡ length slot
+  pub free-long : length free ≡ 2 * length slot
+  pub class : ClassOk nodes j
+  pub pairs : (length tops ≡ 2) × (length next ≡ 2)
+  pub few : slotsIn slot tops ≤ length slot
+
+-- at node i operand j gives its slot back, if the definition says so
+pub record Gives (i j : ℕ) (nodes last pinned slot free tops next slot′ free′ tops′ : List ℕ) : Type 0 where
+  pub long : (length slot′ ≡ length slot) × (length free′ ≡ length free) × (length tops′ ≡ 2)
+  pub few : slotsIn slot′ tops′ ≡ slotsIn slot tops
+  pub follows : (emitted : List ℕ) (s : Scan) → Stands (length slot) slot free tops next s → Stands (length slot) slot′ free′ tops′ next (give nodes (listed emitted last pinned) i j s)
+
+-- operand j can be encoded: it has a slot or is a uniform leaf
+pub record EncOk (j : ℕ) (nodes emitted slot : List ℕ) : Type 0 where
+  pub place : j < length slot
+  pub emitted-long : length emitted ≡ length slot
+  pub class : ClassOk nodes j
+  pub held : (getD emitted j 0 ≡ 0 → ⊥) → (0 < getD slot j 0) × (getD slot j 0 ≤ 536870912)
+  pub named : getD emitted j 0 ≡ 0 → (nodeAt nodes j .tag < 6) × (nodeAt nodes j .x < 536870912)
+
+-- node i's operands can be encoded
+pub record WordsOk (i : ℕ) (nodes emitted slot : List ℕ) : Type 0 where
+  pub long : 4 * i + 4 ≤ length nodes
+  pub operand : (j : ℕ) → has j (operands (nodeAt nodes i)) ≡ true → EncOk j nodes emitted slot
+
+-- the words of node i, whatever slot it takes
+pub record Spelt (i : ℕ) (nodes emitted slot : List ℕ) (op a b : ℕ) : Type 0 where
+  pub words : (k : ℕ) → written nodes (listed emitted [] []) (λ j. getD slot j 0) i k ≡ record { op = op; a = a; b = b; res = slotWord (nodeAt nodes i .dim) k }
+
+-- node i's operands can give their slots back
+pub record ReleaseOk (i : ℕ) (nodes last pinned slot free tops next : List ℕ) : Type 0 where
+  pub pair : length tops ≡ 2
+  pub long : 4 * i + 4 ≤ length nodes
+  pub operand : (j : ℕ) → has j (operands (nodeAt nodes i)) ≡ true → GiveOk j nodes last pinned slot free tops next
+
+-- they do, as the definition says
+pub record Released (i : ℕ) (nodes last pinned slot free tops next slot′ free′ tops′ : List ℕ) : Type 0 where
+  pub long : (length slot′ ≡ length slot) × (length free′ ≡ length free) × (length tops′ ≡ 2)
+  pub few : slotsIn slot′ tops′ ≡ slotsIn slot tops
+  pub follows : (emitted : List ℕ) (s : Scan) → Stands (length slot) slot free tops next s → Stands (length slot) slot′ free′ tops′ next (giveAll nodes (listed emitted last pinned) i (operands (nodeAt nodes i)) s)
+
+-- node i can take a slot and be written as number `count`
+pub record ClaimOk (i class : ℕ) (slot free tops next out : List ℕ) (count : ℕ) : Type 0 where
+  pub place : i < length slot
+  pub take : TakeOk class free tops next
+  pub slot-low : pick (stack free class (getD tops class 0)) (getD next class 0) < 536870912
+  pub room : 4 * count + 4 ≤ length out
+
+-- it does
+pub record Claimed (i class op a b : ℕ) (slot free tops next out : List ℕ) (count : ℕ) (slot′ tops′ next′ out′ : List ℕ) (k : ℕ) : Type 0 where
+  pub taken : Takes class free tops next k tops′ next′
+  pub slots : slot′ ≡ set slot i (k + 1)
+  pub words : out′ ≡ sets out (4 * count) (op ∷ a ∷ b ∷ slotWord class k ∷ [])
+
+-- what the scan asks of n nodes and a liveness
+pub record Scannable (n : ℕ) (nodes : List ℕ) (v : Liveness) : Type 0 where
+  pub few : n < 536870912
+  pub long : 4 * n ≤ length nodes
+  pub dims : (j : ℕ) → j < n → nodeAt nodes j .dim < 2
+  pub before : (i j : ℕ) → i < n → has j (operands (nodeAt nodes i)) ≡ true → j < i
+  pub low : (j : ℕ) → j < n → isUniform (nodeAt nodes j) ≡ true → nodeAt nodes j .x < 536870912
+  pub named : (i j : ℕ) → i < n → v .emitted i ≡ true → has j (operands (nodeAt nodes i)) ≡ true → v .emitted j ≡ false → isUniform (nodeAt nodes j) ≡ true
+  pub last-read : (i j : ℕ) → i < n → v .emitted i ≡ true → has j (operands (nodeAt nodes i)) ≡ true → v .pinned j ≡ false → i ≤ v .lastUse j
+
+-- the words written are those of the scan, over what was there
+pub record Wrote (old out : List ℕ) (count : ℕ) (s : Scan) : Type 0 where
+  pub counted : count ≡ length (s .out)
+  pub words : out ≡ flat (s .out) ++ drop (4 * count) old
+
+-- the lists before node i
+pub record Ready (i : ℕ) (nodes emitted last pinned slot free tops next out : List ℕ) (count : ℕ) : Type 0 where
+  pub place : i < length slot
+  pub scannable : Scannable (length slot) nodes (listed emitted last pinned)
+  pub emitted-long : length emitted ≡ length slot
+  pub last-long : length last ≡ length slot
+  pub pinned-long : length pinned ≡ length slot
+  pub few : slotsIn slot tops ≤ i
+  pub stands : Stands (length slot) slot free tops next (scan nodes (listed emitted last pinned) i)
+  pub counted : count ≡ length (scan nodes (listed emitted last pinned) i .out)
+  pub room : 4 * length (scan nodes (listed emitted last pinned) (suc i) .out) ≤ length out
+
+-- and after it
+pub record Advanced (i : ℕ) (nodes emitted last pinned slot out : List ℕ) (count : ℕ) (slot′ free′ tops′ next′ out′ : List ℕ) (count′ : ℕ) : Type 0 where
+  pub few : slotsIn slot′ tops′ ≤ suc i
+  pub stands : Stands (length slot) slot′ free′ tops′ next′ (scan nodes (listed emitted last pinned) (suc i))
+  pub writes : (old : List ℕ) → Wrote old out count (scan nodes (listed emitted last pinned) i) → Wrote old out′ count′ (scan nodes (listed emitted last pinned) (suc i))
+
+-- the lists before the first node
+pub record Begins (nodes emitted last pinned slot free out : List ℕ) : Type 0 where
+  pub scannable : Scannable (length slot) nodes (listed emitted last pinned)
+  pub emitted-long : length emitted ≡ length slot
+  pub last-long : length last ≡ length slot
+  pub pinned-long : length pinned ≡ length slot
+  pub free-long : length free ≡ 2 * length slot
+  pub none : busy slot ≡ 0
+  pub room : 4 * length (scan nodes (listed emitted last pinned) (length slot) .out) ≤ length out
+
+-- and after the first i
+pub record Scanned (i : ℕ) (nodes emitted last pinned old slot free tops next out : List ℕ) (count : ℕ) : Type 0 where
+  pub few : slotsIn slot tops ≤ i
+  pub stands : Stands (length slot) slot free tops next (scan nodes (listed emitted last pinned) i)
+  pub wrote : Wrote old out count (scan nodes (listed emitted last pinned) i)

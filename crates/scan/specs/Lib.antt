@@ -1,0 +1,4 @@
+-- Liveness and the scan of lowering.
+pub mod Arrays
+pub mod Liveness
+pub mod Scan
