@@ -12,9 +12,6 @@ ghost use Rattle.lower.specs.Lower.{rootWord, lowered};
 ghost use Rattle.lower.specs.Inner.{RootOk, RootsOk, WriteOk, BlobWritten, ListsLong, CountsOk, LowerOk, WordsAnswer};
 ghost use Rattle.lower.specs.Answer.{emptied, LowerAnswer};
 ghost use Rattle.scan.specs.Liveness.{live};
-use scan::liveness::mark_live;
-use scan::scan::Progress;
-use scan::scan::scan_nodes;
 use device::blob::BlobCounts;
 use device::blob::RES_EXT_BIT;
 use field::goldilocks::Fp;
@@ -25,6 +22,9 @@ use ir::program::too_many_nodes;
 use ir::program::too_many_roots;
 use ir::refusal::Place;
 use ir::refusal::Refusal;
+use scan::liveness::mark_live;
+use scan::scan::Progress;
+use scan::scan::scan_nodes;
 
 // The blob's counts, with its words in the caller's room, or why there is none.
 pub enum Lowering {
