@@ -1,16 +1,14 @@
 -- What lowering says, what it writes and how it leaves the lists that it borrows.
 -- Assumes nothing.
-use mathlib.Core.Bool.{Bool, true, false, cond, _||_}
+use mathlib.Core.Bool.{Bool, cond, _||_}
 use mathlib.Core.List.{List, [], _∷_, _++_}
 use mathlib.Core.Path.{_≡_}
 use Prim.Native.Nat.{ℕ, _*_}
 use lib.Dec.{eqb, ltb}
 use lib.ListN.{length, drop}
-use Rattle.ir.specs.declared.program.Counts.{Counts}
 use Rattle.ir.specs.Program.{Program, tooManyNodes, tooManyRoots, shortProgram, illFormed}
 use Rattle.ir.specs.Refusals.{Said, Row, row, rowAt, first, gives, saidOf}
 use Rattle.device.specs.declared.blob.BlobCounts.{BlobCounts}
-use Rattle.device.specs.Blob.{Blob}
 use Rattle.device.specs.Check.{cleared}
 use Rattle.lower.specs.declared.lower.Lowering.{Lowering}
 use Rattle.lower.specs.declared.lower.Lowering.the-variants.{Lowered, Refused}
@@ -46,7 +44,7 @@ shortLists n b =
     || ltb (length (b .slot)) n
     || ltb (length (b .free)) (2 * n)
 
--- 10: the blob's words have no room
+-- 10: no room for four words an emitted node, the base constants, three words an extension constant, and the roots
 unfoldable pub shortOutput : Lower.Lowered → Output → Bool
 shortOutput l o =
     ltb (length (o .nodes)) (length (l .nodes))

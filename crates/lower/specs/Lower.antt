@@ -6,7 +6,7 @@ use lib.ListN.{length, getD}
 use Rattle.laws.specs.Lists.{tabulate}
 use Rattle.field.specs.Base.{p}
 use Rattle.ir.specs.declared.program.Counts.{Counts}
-use Rattle.ir.specs.Words.{Node, nodeAt}
+use Rattle.ir.specs.Words.{nodeAt}
 use Rattle.ir.specs.Program.{numBase}
 use Rattle.device.specs.Blob.{Blob}
 use Rattle.scan.specs.Liveness.{Liveness}

@@ -32,7 +32,8 @@ use Rattle.walk.specs.Trace.{rowAt, contents}
 use Rattle.lower.specs.Answer.{over}
 use Rattle.scan.proofs.WordLaws.{by-leaf}
 use Rattle.lowered.specs.Faithful.{withConstants}
-use Rattle.lowered.proofs.ValueLaws.{leavesOf, LeafFits}
+use Rattle.lowered.specs.Faithful.{leavesOf}
+use Rattle.lowered.proofs.ValueLaws.{LeafFits}
 use Rattle.lowered.proofs.SameLaws.{over-at}
 
 -- a table of n words put below p, over others

@@ -36,7 +36,7 @@ use Rattle.scan.specs.Liveness.{Liveness, Sound}
 use Rattle.scan.specs.Scan.{scan, flat, slotWord}
 use Rattle.lower.specs.Lower.{Lowered, rootWord, lowered, blobOf}
 use Rattle.scan.proofs.ScanLaws.{root-held}
-use Rattle.lowered.proofs.ValueLaws.{leavesOf}
+use Rattle.lowered.specs.Faithful.{leavesOf}
 use Rattle.lowered.proofs.PutLaws.{word-class}
 use Rattle.lowered.proofs.SameLaws.{slots-same}
 use Rattle.lowered.proofs.SimLaws.{Fits, walked, dim-low, slot-low}

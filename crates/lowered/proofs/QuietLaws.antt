@@ -26,6 +26,15 @@ use Rattle.interp.specs.declared.frame.Lengths.{Lengths}
 use Rattle.interp.specs.Frame.{Lent, nodeOutside, frameLimits}
 use Rattle.interp.specs.Evaluation.{shortFrame, shortMemory, shortEvals, extRoot, rootDim, proverRows, lengths, ProverAnswer}
 
+-- where 12 is not given, a root below num_base is base
+pub leading-base : (c : Counts) (nodes roots : List ℕ) → extRoot c nodes roots ≡ none → (r : ℕ) → r < c .roots → r < numBase c → nodeAt nodes (getD roots r 0) .dim ≡ 0
+unfolding extRoot
+leading-base c nodes roots e r h b =
+    let z = lowest-none (λ k. ltb k (numBase c) && not (eqb (rootDim nodes roots k) 0)) (c .roots) e r h in
+    by-test (eqb (rootDim nodes roots r) 0) (rootDim nodes roots r ≡ 0)
+    (λ t. eqb-true (rootDim nodes roots r) 0 t)
+    λ t. clash refl (rw (lt-ltb r (numBase c) b, t) at z)
+
 -- no row of the plain evaluator holds
 pub record Answered (c : Counts) (s : Shape) (l : Lengths) (base ext : ℕ) (nodes roots : List ℕ) : Type 0 where
   pub few : tooManyNodes c ≡ false
@@ -90,12 +99,3 @@ module _ {c : Counts} {s : Shape} {l : Lengths} {base ext : ℕ} {nodes roots : 
       let h₂ = or-left (p || q) r h₃ in
       let m = ltb-false (l .main) (1 * (s .steps * s .main)) (or-left p q h₂) in
       (omega arith, ltb-false _ _ (or-right p q h₂), ltb-false _ _ (or-right (p || q) r h₃), ltb-false _ _ (or-right (p || q || r) t h))
-
-  -- a root below num_base is base
-  pub leading-base : (r : ℕ) → r < c .roots → r < numBase c → nodeAt nodes (getD roots r 0) .dim ≡ 0
-  unfolding extRoot
-  leading-base r h b =
-      let z = lowest-none (λ k. ltb k (numBase c) && not (eqb (rootDim nodes roots k) 0)) (c .roots) (a .leading) r h in
-      by-test (eqb (rootDim nodes roots r) 0) (rootDim nodes roots r ≡ 0)
-      (λ t. eqb-true (rootDim nodes roots r) 0 t)
-      λ t. clash refl (rw (lt-ltb r (numBase c) b, t) at z)

@@ -30,7 +30,8 @@ use Rattle.scan.specs.Scan.{Scan, pick, more, slotWord, uniformKind, encode, wr
 use Rattle.lower.specs.Lower.{rootWord}
 use Rattle.scan.proofs.SlotLaws.{upd-case, kept, Good, pick-unheld}
 use Rattle.scan.proofs.ScanLaws.{cond-case, not-true, given, give-all, given-keeps, freed, taken, Kept, freed-kept, scan-kept, taken-low, next-mono, next-le, operand-held, root-held}
-use Rattle.lowered.proofs.ValueLaws.{leavesOf, LeafFits, slotAt, by-slot, by-name, leaf-written, binary-written, negation-written, embedding-written}
+use Rattle.lowered.specs.Faithful.{leavesOf}
+use Rattle.lowered.proofs.ValueLaws.{LeafFits, slotAt, by-slot, by-name, leaf-written, binary-written, negation-written, embedding-written}
 use Rattle.lowered.proofs.PutLaws.{putAt, roomOf, word-class, put-lands, put-same, put-other, root-word, slots-snoc}
 
 -- a frame and counts that have what the program's leaves name, and room for the slots that the scan takes

@@ -19,20 +19,8 @@ use Rattle.device.specs.declared.blob.BlobCounts.{BlobCounts}
 use Rattle.device.specs.Blob.{Instr, isExt, kindOf, payloadOf, Binary, Form, binary, negation, embedding, tags, kinds}
 use Rattle.device.specs.StepRule.{Contents, Slots, onlyBase, heldBy, operand, baseOperand, extOperand, op₀, op₁, valueOf}
 use Rattle.scan.specs.Scan.{uniformKind}
+use Rattle.lowered.specs.Faithful.{leavesOf}
 use Rattle.scan.proofs.WordLaws.{kind-of, payload-of, by-leaf}
-
--- the plain evaluator's leaves, of what a walk reads
-abbrev pub leavesOf : {B X : Type 0} → Contents B X → Leaves B X
-leavesOf u =
-    record {
-      base-const = u .base-const;
-      ext-const = u .ext-const;
-      main = λ step col. base (u .main step col);
-      aux = u .aux;
-      challenge = u .challenge;
-      alpha = u .alpha;
-      offset = u .table-offset;
-    }
 
 -- what a slot of a class holds
 abbrev pub slotAt : {B X : Type 0} → Slots B X → ℕ → ℕ → Option (Value B X)

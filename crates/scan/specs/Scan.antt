@@ -1,18 +1,13 @@
 -- The scan of lowering: one pass over the nodes that gives each emitted node a slot and writes it, with slots used again.
 -- Assumes nothing.
-use mathlib.Core.Bool.{Bool, true, false, cond, not, _&&_}
-use mathlib.Core.List.{List, [], _∷_, _++_, map}
-use Prim.Native.Nat.{ℕ, zero, suc, _+_, _*_, _-_, _%_}
+use mathlib.Core.Bool.{cond, not, _&&_}
+use mathlib.Core.List.{List, [], _∷_, _++_}
+use Prim.Native.Nat.{ℕ, zero, suc, _+_, _*_, _-_}
 use lib.Dec.{eqb, leb, ltb}
-use lib.ListN.{length, getD}
-use Rattle.laws.specs.Lists.{tabulate}
 use Rattle.laws.specs.Maps.{upd}
-use Rattle.field.specs.Base.{p}
-use Rattle.ir.specs.declared.program.Counts.{Counts}
 use Rattle.ir.specs.Words.{Node, nodeAt, constBase, constExt, var, rapChallenge, alphaPow, add, neg}
-use Rattle.ir.specs.Program.{numBase}
-use Rattle.device.specs.Blob.{Instr, Blob}
-use Rattle.scan.specs.Liveness.{operands, Liveness, live}
+use Rattle.device.specs.Blob.{Instr}
+use Rattle.scan.specs.Liveness.{operands, Liveness}
 
 -- the state of the scan: each node's slot plus one, 0 for none; the free slots of each class, last freed first; how many
 -- slots of each class there are; the nodes written
