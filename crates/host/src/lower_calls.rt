@@ -37,7 +37,20 @@ pub extern "C" fn cir_lower(
 {
     let c = counts_of(n, b, x, r, leading);
     match lower(
-        c, nodes, bases, exts, roots, used, last, root, slot, free, blob, narrow, wide, ends,
+        c,
+        nodes,
+        bases,
+        exts,
+        roots,
+        used,
+        last,
+        root,
+        slot,
+        free,
+        blob,
+        narrow,
+        wide,
+        ends,
     ) {
         Lowering::Lowered(k) => {
             *count = k.nodes;

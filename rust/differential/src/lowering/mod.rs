@@ -3,6 +3,7 @@
 pub mod agree;
 pub mod compare;
 pub mod every;
+pub mod sample;
 
 use std::fmt::Arguments;
 
