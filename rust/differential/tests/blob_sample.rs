@@ -11,7 +11,7 @@ use differential::blobs::sample::{cases, lines, stops};
 use differential::blobs::{BlobWords, Lengths};
 use differential::lines::{Numbers, file_has};
 use differential::lowering::agree::{Case, agree as lowering_agrees};
-use differential::lowering::{Lease, compare, sample as lowering};
+use differential::lowering::{self, compare, sample};
 use differential::programs::compare::Answer;
 use differential::programs::{Cells, Words, published};
 use host::Refusal;
@@ -110,20 +110,28 @@ fn blob(numbers: &mut Numbers, answered: &mut BTreeSet<u8>, what: &str) {
     assert_eq!(bytes, bytes_after(answer, counts, lengths.bytes), "{what}");
 }
 
-/// A line of kind 2: lowering.
-#[track_caller]
-fn lowered(numbers: &mut Numbers, answered: &mut BTreeSet<u8>, what: &str) {
-    let mut count = || numbers.count();
+/// A line of kind 2 up to its answer.
+fn read_program(numbers: &mut Numbers) -> (Words, lowering::Lengths) {
     let counts = Counts {
-        nodes: count(),
-        base_consts: count(),
-        ext_consts: count(),
-        roots: count(),
-        num_base: count(),
+        nodes: numbers.count(),
+        base_consts: numbers.count(),
+        ext_consts: numbers.count(),
+        roots: numbers.count(),
+        num_base: numbers.count(),
     };
-    let [nodes, base_consts, ext_consts, roots] = [count(), count(), count(), count()];
-    let list_lengths: [usize; 5] = [count(), count(), count(), count(), count()];
-    let [nodes_out, base_out, ext_out, roots_out] = [count(), count(), count(), count()];
+    let [nodes, base_consts] = [numbers.count(), numbers.count()];
+    let [ext_consts, roots] = [numbers.count(), numbers.count()];
+    let lengths = lowering::Lengths {
+        used: numbers.count(),
+        last_use: numbers.count(),
+        is_root: numbers.count(),
+        slot_of: numbers.count(),
+        free_slots: numbers.count(),
+        nodes: numbers.count(),
+        base_consts: numbers.count(),
+        ext_consts: numbers.count(),
+        roots: numbers.count(),
+    };
     let words = Words {
         counts,
         nodes: numbers.short_words(nodes),
@@ -131,58 +139,88 @@ fn lowered(numbers: &mut Numbers, answered: &mut BTreeSet<u8>, what: &str) {
         ext_consts: numbers.words(ext_consts),
         roots: numbers.short_words(roots),
     };
-    let mut lists = list_lengths.map(|len| vec![KEPT_SHORT; len]);
-    let mut lists_after = lists.clone();
-    let mut short_tables = [nodes_out, roots_out].map(|len| vec![KEPT_SHORT; len]);
-    let mut short_after = short_tables.clone();
-    let mut tables = [base_out, ext_out].map(|len| vec![KEPT; len]);
-    let mut after = tables.clone();
-    let kept = Sizes {
-        nodes: KEPT_SHORT,
-        base_slots: KEPT_SHORT,
-        ext_slots: KEPT_SHORT,
-    };
-    let mut sizes = kept;
+    (words, lengths)
+}
 
-    let [used, last_use, is_root, slot_of, free_slots] = &mut lists;
-    let ([nodes, roots], [base_consts, ext_consts]) = (&mut short_tables, &mut tables);
-    let answer = lower_into(
-        &words.lend(),
-        Lists {
+/// What lowering is lent for writing.
+#[derive(Clone, Debug, PartialEq)]
+struct Memory {
+    lists: [Vec<u32>; 5],
+    nodes: Vec<u32>,
+    base_consts: Vec<u64>,
+    ext_consts: Vec<u64>,
+    roots: Vec<u32>,
+    sizes: Sizes,
+}
+
+impl Memory {
+    fn kept(lengths: &lowering::Lengths) -> Self {
+        let shorts = |len| vec![KEPT_SHORT; len];
+        Memory {
+            lists: [
+                shorts(lengths.used),
+                shorts(lengths.last_use),
+                shorts(lengths.is_root),
+                shorts(lengths.slot_of),
+                shorts(lengths.free_slots),
+            ],
+            nodes: shorts(lengths.nodes),
+            base_consts: vec![KEPT; lengths.base_consts],
+            ext_consts: vec![KEPT; lengths.ext_consts],
+            roots: shorts(lengths.roots),
+            sizes: Sizes {
+                nodes: KEPT_SHORT,
+                base_slots: KEPT_SHORT,
+                ext_slots: KEPT_SHORT,
+            },
+        }
+    }
+
+    fn lower(&mut self, words: &Words) -> Answer {
+        let [used, last_use, is_root, slot_of, free_slots] = &mut self.lists;
+        let lists = Lists {
             used,
             last_use,
             is_root,
             slot_of,
             free_slots,
-        },
-        Tables {
-            nodes,
-            base_consts,
-            ext_consts,
-            roots,
-        },
-        &mut sizes,
-    );
+        };
+        let tables = Tables {
+            nodes: &mut self.nodes,
+            base_consts: &mut self.base_consts,
+            ext_consts: &mut self.ext_consts,
+            roots: &mut self.roots,
+        };
+        lower_into(&words.lend(), lists, tables, &mut self.sizes)
+    }
+}
+
+/// A line of kind 2: lowering.
+#[track_caller]
+fn lowered(numbers: &mut Numbers, answered: &mut BTreeSet<u8>, what: &str) {
+    let (words, lengths) = read_program(numbers);
+    let mut memory = Memory::kept(&lengths);
+    let mut after = memory.clone();
+    let answer = memory.lower(&words);
+    let counts = &words.counts;
     if answer.map_or_else(|refusal| refusal.number == 10, |()| true) {
-        for (at, list) in lists_after.iter_mut().enumerate() {
-            list[..[1, 1, 1, 1, 2][at] * counts.nodes].fill(0);
+        for (list, a_node) in after.lists.iter_mut().zip([1, 1, 1, 1, 2]) {
+            list[..a_node * counts.nodes].fill(0);
         }
     }
-    let mut sizes_after = kept;
     if numbers.answer(answer, answered, what) {
-        sizes_after = Sizes {
+        after.sizes = Sizes {
             nodes: numbers.short(),
             base_slots: numbers.short(),
             ext_slots: numbers.short(),
         };
-        let node_words = 4 * sizes_after.nodes as usize;
-        short_after[0][..node_words].copy_from_slice(&numbers.short_words(node_words));
-        after[0][..counts.base_consts].copy_from_slice(&numbers.words(counts.base_consts));
-        after[1][..3 * counts.ext_consts].copy_from_slice(&numbers.words(3 * counts.ext_consts));
-        short_after[1][..counts.roots].copy_from_slice(&numbers.short_words(counts.roots));
+        let node_words = 4 * after.sizes.nodes as usize;
+        after.nodes[..node_words].copy_from_slice(&numbers.short_words(node_words));
+        after.base_consts[..counts.base_consts].copy_from_slice(&numbers.words(counts.base_consts));
+        after.ext_consts[..3 * counts.ext_consts].copy_from_slice(&numbers.words(3 * counts.ext_consts));
+        after.roots[..counts.roots].copy_from_slice(&numbers.short_words(counts.roots));
     }
-    assert_eq!((sizes, lists), (sizes_after, lists_after), "{what}");
-    assert_eq!((short_tables, tables), (short_after, after), "{what}");
+    assert_eq!(memory, after, "{what}");
 }
 
 #[test]
@@ -316,14 +354,14 @@ fn program_e_is_lowered_first() {
         "0 1",
         "0 2147483648",
     ];
-    assert_eq!(lowering::lines()[0], parts.join(" "));
+    assert_eq!(sample::lines()[0], parts.join(" "));
 }
 
 /// The published `lower` confirms the blobs in the sample; the answers are those of the plain reading.
 #[test]
 fn published_lower_confirms_the_sample() {
     let mut score = Score::new("the sample of lowering");
-    for (at, Lease { words, lengths }) in lowering::cases().iter().enumerate() {
+    for (at, lowering::Lease { words, lengths }) in sample::cases().iter().enumerate() {
         let what = format_args!("case {at}");
         if compare::lower(&mut score, words, *lengths, what).answer.is_ok() {
             let program = &published::program(words);

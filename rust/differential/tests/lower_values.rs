@@ -168,16 +168,12 @@ fn every_built_program() {
     score.finish(&[0]);
 }
 
-/// Every well-formed program of up to four nodes with up to two roots, and of five nodes with up to one.
-#[test]
-fn every_foreign_program() {
-    let small = cfg!(debug_assertions);
-    let mut score = Score::new("lowering of every program of up to five nodes");
-    for (nodes, roots) in [(0, 0), (1, 2), (2, 2), (3, 2), (4, 2), (5, 1)] {
-        if small && 3 < nodes {
-            continue;
-        }
-        every::foreign(nodes, roots, &mut |words| {
+/// Every well-formed program of so many nodes with up to so many roots, over the alphabet of `every::foreign`.
+#[track_caller]
+fn compare_every_foreign(test: &'static str, sizes: &[(usize, usize)], programs: u64) {
+    let mut score = Score::new(test);
+    for (nodes, roots) in sizes {
+        every::foreign(*nodes, *roots, &mut |words| {
             let case = Case {
                 words,
                 program: &published::program(words),
@@ -185,10 +181,27 @@ fn every_foreign_program() {
             agree(&mut score, case, 0, format_args!("every program"));
         });
     }
-    if !small {
-        assert_eq!(score.agreed, 1_211_153);
-    }
+    assert_eq!(score.agreed, programs);
     score.finish(&[0]);
+}
+
+#[test]
+fn every_foreign_program() {
+    compare_every_foreign(
+        "lowering of every program of up to four nodes with up to two roots",
+        &[(0, 0), (1, 2), (2, 2), (3, 2), (4, 2)],
+        138_641,
+    );
+}
+
+#[test]
+#[ignore = "some seconds more"]
+fn every_foreign_program_of_five_nodes() {
+    compare_every_foreign(
+        "lowering of every program of five nodes with up to two roots",
+        &[(5, 2)],
+        5_541_312,
+    );
 }
 
 /// The host's blob of a program that the published Rust makes, which it has to agree with.

@@ -1,5 +1,5 @@
-//! Comments of the published `device.rs`, `ir.rs`, `interp.rs` and `builder.rs` that are false: each with the smallest input
-//! that shows it, on the published code. The code is right by the scope document, which says what is meant.
+//! Comments of the published `device.rs`, `ir.rs`, `interp.rs` and `builder.rs` that are false or mislead: each with the
+//! smallest input that shows it, on the published code. The code is right by the scope document, which says what is meant.
 
 #![forbid(unsafe_code)]
 
@@ -45,23 +45,22 @@ fn dead_nodes_not_materialized() {
 }
 
 /// `device.rs`: "frees an operand's slot at its last use, so the scratch working set is the program's max-live-set". A slot
-/// whose last reader is not emitted is never freed: there are two slots, and one value is live at any time. Without the dead
-/// reader there is one slot.
+/// whose last reader is not emitted is never freed: a cell, its negation as root and a dead sum have two slots, though the cell
+/// is not read any more when the negation is there. Without the dead sum there is one slot.
 #[test]
 fn working_set_is_max_live_set() {
-    let body = |dead: bool| {
-        built(1, |b: &mut IrBuilder| {
+    let slots = |with_dead_sum: bool| {
+        let program = built(1, |b| {
             let cell = b.main(0, 0);
-            let first = b.neg(cell);
-            if dead {
+            let negation = b.neg(cell);
+            b.emit(0, negation);
+            if with_dead_sum {
                 b.add(cell, cell);
             }
-            let second = b.neg(first);
-            b.emit(0, second);
-        })
+        });
+        lower(&program).counts.base_slots
     };
-    assert_eq!(lower(&body(false)).counts.base_slots, 1);
-    assert_eq!(lower(&body(true)).counts.base_slots, 2);
+    assert_eq!((slots(false), slots(true)), (1, 2));
 }
 
 /// `device.rs`: "Constants are canonical raw limbs". An extension constant's limbs are kept as they came.
@@ -175,9 +174,9 @@ fn reads_of_some_constraint() {
     assert_eq!(program.next_row_trace_reads(1), [3]);
 }
 
-/// `interp.rs`: `eval_program_base` is for constraints that read "main columns at offset 0". The offset is not looked at:
-/// the next row's cell is read from this row. "Evaluate one constraint's root": a dead leaf of another kind panics all the
-/// same.
+/// `interp.rs`: `eval_program_base` is for a set of constraints that "only reads main columns at offset 0". True of the set;
+/// the function does not look at the offset, and the next row's cell is read from this row. "Evaluate one constraint's root":
+/// every node is evaluated, and a dead leaf of another kind panics.
 #[test]
 fn minimal_set_at_offset_0() {
     let next = built(1, |b| {

@@ -10,7 +10,7 @@ use crate::Score;
 use crate::blobs::BlobWords;
 use crate::plain::lower as plain_calls;
 use crate::programs::Words;
-use crate::programs::compare::{Answer, Kept, Lent, below_p, same_answer};
+use crate::programs::compare::{Answer, GUARD, Kept, Lent, below_p, same_answer};
 
 /// What a fresh word of 32 bits holds: never 0, and no slot, node or operand.
 fn fresh_short(at: usize) -> u32 {
@@ -119,9 +119,12 @@ fn lists_are_right(words: &Words, lowered: &Lowered, what: Arguments<'_>) {
     for (at, list) in lowered.lists.iter().enumerate() {
         let a_node = if at == 4 { 2 } else { 1 };
         let used = if done { a_node * words.counts.nodes } else { 0 };
-        let fresh = Lent::filled(list.len(), fresh_short).host().to_vec();
+        let is_fresh = |(at, word): (usize, &u32)| *word == fresh_short(GUARD + at);
         assert!(list[..used].iter().all(|word| *word == 0), "{what}: list {at} is not 0");
-        assert_eq!(list[used..], fresh[used..], "{what}: words of list {at} that stay");
+        assert!(
+            list.iter().enumerate().skip(used).all(is_fresh),
+            "{what}: words of list {at} that stay"
+        );
     }
 }
 

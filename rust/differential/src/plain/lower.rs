@@ -83,37 +83,61 @@ struct Lowered {
     sizes: Sizes,
 }
 
-fn lowered(nodes: &[Node], roots: &[usize]) -> Lowered {
-    let mut readers = vec![BTreeSet::new(); nodes.len()];
-    for (id, node) in nodes.iter().enumerate() {
-        for read in reads(node) {
-            readers[read].insert(id);
+/// Who reads each node, dead or not, and which nodes are roots.
+struct Uses<'a> {
+    nodes: &'a [Node],
+    readers: Vec<BTreeSet<usize>>,
+    rooted: BTreeSet<usize>,
+}
+
+impl<'a> Uses<'a> {
+    fn of(nodes: &'a [Node], roots: &[usize]) -> Self {
+        let mut readers = vec![BTreeSet::new(); nodes.len()];
+        for (id, node) in nodes.iter().enumerate() {
+            for read in reads(node) {
+                readers[read].insert(id);
+            }
+        }
+        Uses {
+            nodes,
+            readers,
+            rooted: roots.iter().copied().collect(),
         }
     }
-    let rooted: BTreeSet<usize> = roots.iter().copied().collect();
-    let emitted = |id: usize| {
-        let used = rooted.contains(&id) || !readers[id].is_empty();
-        used && (uniform(&nodes[id]).is_none() || rooted.contains(&id))
-    };
 
-    let mut words_out = Vec::new();
+    fn emitted(&self, id: usize) -> bool {
+        let root = self.rooted.contains(&id);
+        let used = root || !self.readers[id].is_empty();
+        used && (root || uniform(&self.nodes[id]).is_none())
+    }
+
+    /// Whether a node that is read by `reader` gives its slot back there.
+    fn ends(&self, id: usize, reader: usize) -> bool {
+        self.readers[id].last() == Some(&reader) && !self.rooted.contains(&id)
+    }
+
+    /// An operand's word, while these slots are held.
+    fn operand(&self, id: usize, held: &BTreeMap<usize, Slot>) -> u32 {
+        operand(if self.emitted(id) {
+            (u32::from(held[&id].extension), held[&id].number as usize)
+        } else {
+            uniform(&self.nodes[id]).expect("a used node without a slot is a uniform leaf")
+        })
+    }
+}
+
+fn lowered(nodes: &[Node], roots: &[usize]) -> Lowered {
+    let uses = Uses::of(nodes, roots);
+    let mut out = Vec::new();
     let mut held: BTreeMap<usize, Slot> = BTreeMap::new();
     let mut of_class = [Slots::default(), Slots::default()];
-    for (id, node) in nodes.iter().enumerate().filter(|(id, _)| emitted(*id)) {
-        let name = |read: usize| {
-            operand(if emitted(read) {
-                (u32::from(held[&read].extension), held[&read].number as usize)
-            } else {
-                uniform(&nodes[read]).expect("a used node without a slot is a uniform leaf")
-            })
-        };
-        let [tag, a, b] = words(node, name);
+    for (id, node) in nodes.iter().enumerate().filter(|(id, _)| uses.emitted(*id)) {
+        let [tag, a, b] = words(node, |read| uses.operand(read, &held));
         for read in reads(node) {
-            if readers[read].last() == Some(&id) && !rooted.contains(&read) {
-                // The second time, or for a uniform leaf, there is nothing to take off.
-                if let Some(slot) = held.remove(&read) {
-                    of_class[usize::from(slot.extension)].pile.push(slot.number);
-                }
+            // A uniform leaf holds no slot, and the second of two equal operands none any more.
+            let given = if uses.ends(read, id) { held.remove(&read) } else { None };
+            if let Some(slot) = given {
+                of_class[usize::from(slot.extension)].pile.push(slot.number);
             }
         }
         let slot = Slot {
@@ -121,15 +145,15 @@ fn lowered(nodes: &[Node], roots: &[usize]) -> Lowered {
             number: of_class[usize::from(node.extension)].take(),
         };
         held.insert(id, slot);
-        words_out.extend([tag, a, b, slot_word(slot)]);
+        out.extend([tag, a, b, slot_word(slot)]);
     }
     Lowered {
         sizes: Sizes {
-            nodes: (words_out.len() / 4) as u32,
+            nodes: (out.len() / 4) as u32,
             base_slots: of_class[0].count,
             ext_slots: of_class[1].count,
         },
-        nodes: words_out,
+        nodes: out,
         roots: roots.iter().map(|root| slot_word(held[root])).collect(),
     }
 }
