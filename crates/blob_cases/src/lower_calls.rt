@@ -172,6 +172,23 @@ fn cleared(n: usize, answer: u64) -> usize {
     }
 }
 
+// The lists of so many nodes are 0, and all else of them is as it was.
+fn hold_lists(
+    seen: Seen,
+    n: usize,
+    used: &[u32],
+    last_use: &[u32],
+    is_root: &[u32],
+    slot_of: &[u32],
+    free: &[u32],
+) -> Seen {
+    let after_used = hold_list(seen, used, n);
+    let after_last = hold_list(after_used, last_use, n);
+    let after_root = hold_list(after_last, is_root, n);
+    let after_slot = hold_list(after_root, slot_of, n);
+    hold_list(after_slot, free, times(2, n))
+}
+
 pub fn hold_lower(line: &[u64], case: Case, rooms: Rooms, nodes: &[u32], roots: &[u32]) -> Seen {
     let mut used = [KEPT_SHORT; LIST_WORDS];
     let mut last_use = [KEPT_SHORT; LIST_WORDS];
@@ -211,9 +228,5 @@ pub fn hold_lower(line: &[u64], case: Case, rooms: Rooms, nodes: &[u32], roots: 
         &out_roots,
     );
     let n = cleared(case.counts.nodes, said.answer);
-    let after_used = hold_list(written, &used, n);
-    let after_last = hold_list(after_used, &last_use, n);
-    let after_root = hold_list(after_last, &is_root, n);
-    let after_slot = hold_list(after_root, &slot_of, n);
-    hold_list(after_slot, &free, times(2, n))
+    hold_lists(written, n, &used, &last_use, &is_root, &slot_of, &free)
 }
