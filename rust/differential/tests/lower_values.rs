@@ -163,7 +163,7 @@ fn every_built_program() {
         agree(&mut score, case, 0, format_args!("every built program"));
     });
     if !cfg!(debug_assertions) {
-        assert_eq!(score.agreed, 1_753_949);
+        assert_eq!(score.agreed, 1_214_570);
     }
     score.finish(&[0]);
 }

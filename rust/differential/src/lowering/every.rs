@@ -11,7 +11,6 @@ use host::program::Counts;
 enum Call {
     Main,
     Aux,
-    One,
     Challenge,
     Add(usize, usize),
     Neg(usize),
@@ -20,7 +19,7 @@ enum Call {
 
 /// Every call that can be made with so many handles.
 fn calls(handles: usize) -> Vec<Call> {
-    let mut calls = vec![Call::Main, Call::Aux, Call::One, Call::Challenge];
+    let mut calls = vec![Call::Main, Call::Aux, Call::Challenge];
     for a in 0..handles {
         calls.extend((0..handles).map(|b| Call::Add(a, b)));
         calls.extend([Call::Neg(a), Call::Embed(a)]);
@@ -34,7 +33,6 @@ fn made(builder: &mut IrBuilder, sequence: &[Call]) -> Vec<Expr> {
         handles.push(match *call {
             Call::Main => builder.main(0, 0),
             Call::Aux => builder.aux(0, 0),
-            Call::One => builder.one(),
             Call::Challenge => builder.challenge(0),
             Call::Add(a, b) => builder.add(handles[a], handles[b]),
             Call::Neg(a) => builder.neg(handles[a]),
@@ -59,8 +57,8 @@ fn emits(handles: usize, most: usize) -> Vec<Emits> {
     all
 }
 
-/// Every program that up to `most` calls of the published builder make, each call one of: a main cell, an aux cell, the
-/// constant 1, a challenge, a sum, a negation, an embedding, an emit for constraint 0, 1 or 2. A call that changes nothing is
+/// Every program that up to `most` calls of the published builder make, each call one of: a main cell, an aux cell, a
+/// challenge, a sum, a negation, an embedding, an emit for constraint 0, 1 or 2. A call that changes nothing is
 /// left out, since fewer calls make the same program; and emits come last, since their place makes no difference.
 pub fn built(most: usize, visit: &mut impl FnMut(Published)) {
     extend(&mut Vec::new(), most, visit);
