@@ -8,14 +8,14 @@
  *
  * A call with an answer gives 0 for "done", or 1 where a slice is too short; then no word has changed. A call on programs
  * or blobs answers a refusal as its number plus 256 times its place; then too no word has changed, but for the bytes that
- * a call on blobs borrows.
+ * a call on blobs borrows and the lists that lowering borrows.
  *
  * The numbers of program calls, in the order in which they are tested; where several hold, the first is given:
  *
  *    8  n or a constant count is over 536,870,911
  *    9  num_base or the root count is over 4,294,967,295
  *    2  the shape has over 256 steps or over 65,536 of anything else; or a width is over 65,536
- *    1  a table, the frame or the room is shorter than counts and shape say
+ *    1  a table, the frame, the room or a borrowed list is shorter than counts and shape say
  *   14  eval buffers are too short
  *    6  there is no such constraint
  *    7  the program is not well-formed; place: the lowest node at fault, else the lowest root
@@ -151,6 +151,26 @@ uint64_t cir_eval_program_base(size_t n, size_t base_count, size_t ext_count, si
                                const uint64_t *base_consts, size_t base_consts_len, const uint64_t *ext_consts,
                                size_t ext_consts_len, const uint32_t *roots, size_t roots_len, const uint64_t *row,
                                size_t row_len, uint64_t *room, size_t room_len, uint64_t *value);
+
+/* ---- lowering */
+
+/* the program as a blob, which the next section describes: its nodes, constants and roots into the first words of the four
+ * out tables, and how many nodes, base slots and extension slots it has into node_count, base_slots and ext_slots; its other
+ * counts are the program's. Constants are put below p. out_nodes needs four words for each node of the blob, which are never
+ * more than n; out_base_consts base_count words, out_ext_consts three times ext_count, out_roots root_count. Words past
+ * these stay. Else 8, 9, 1, 7 or 10, and then nothing of this is written.
+ *
+ * The call borrows six words a node in five lists, which may hold anything: used, last_use, is_root and slot_of have n words,
+ * free_slots has 2 n. They are all 0 after 0 and 10, and are not touched after 8, 9, 1 and 7. Words past these stay. */
+uint64_t cir_lower(size_t n, size_t base_count, size_t ext_count, size_t root_count, size_t num_base,
+                   const uint32_t *nodes, size_t nodes_len, const uint64_t *base_consts, size_t base_consts_len,
+                   const uint64_t *ext_consts, size_t ext_consts_len, const uint32_t *roots, size_t roots_len,
+                   uint32_t *used, size_t used_len, uint32_t *last_use, size_t last_use_len, uint32_t *is_root,
+                   size_t is_root_len, uint32_t *slot_of, size_t slot_of_len, uint32_t *free_slots,
+                   size_t free_slots_len, uint32_t *out_nodes, size_t out_nodes_len, uint64_t *out_base_consts,
+                   size_t out_base_consts_len, uint64_t *out_ext_consts, size_t out_ext_consts_len,
+                   uint32_t *out_roots, size_t out_roots_len, uint32_t *node_count, uint32_t *base_slots,
+                   uint32_t *ext_slots);
 
 /* ---- blobs
  *

@@ -1,12 +1,16 @@
-// Runs the blob check and the walk over a sample of small blobs with frames, on standard input, and holds each answer and
-// each word to the numbers there. The file stdin beside this is what
-// `cargo run --release --offline -p differential --bin blob_sample` prints in rust/; the head of
-// rust/differential/src/blobs/sample.rs says what the numbers are.
+// Runs the blob check and the walk over a sample of small blobs with frames, and lowering over one of small programs, on
+// standard input, and holds each answer and each word to the numbers there. The file stdin beside this is what
+// `cargo run --release --offline -p differential --bin blob_sample` prints in rust/; the heads of
+// rust/differential/src/blobs/sample.rs and rust/differential/src/lowering/sample.rs say what the numbers are.
 mod blob;
 mod blob_calls;
 mod blob_line;
+mod lower_calls;
+mod lower_line;
+mod lowered;
 
 use blob::replay_blob;
+use lowered::replay_lowered;
 use sample::input::sample_numbers;
 use sample::line::line_end;
 use sample::line::number_at;
@@ -18,10 +22,11 @@ use sample::seen::Seen;
 // There is room for so many numbers.
 const NUMBERS: usize = 16384;
 
-// A line says of which kind it is: 1, a blob with a frame. There is no other yet.
+// A line says of which kind it is: 1, a blob with a frame; 2, a program to be lowered.
 fn replay(line: &[u64]) -> Seen {
     match number_at(line, 1) {
         1 => replay_blob(line),
+        2 => replay_lowered(line),
         _ => Seen::UnknownKind,
     }
 }

@@ -21,7 +21,7 @@ pub enum Seen {
 // What a word that a call may write holds beforehand. No call writes it, since it is above p.
 pub const KEPT: u64 = 0xFFFF_FFFF_FFFF_FFFE;
 
-// The same for a word of 32 bits: no column, no operand and no slot is so large.
+// The same for a word of 32 bits: no column, no slot and no operand of a lawful kind is so large.
 pub const KEPT_SHORT: u32 = 0xFFFF_FFFE;
 
 // The same for a byte, which a call leaves as 0 or not at all.
@@ -121,6 +121,24 @@ pub fn hold_bytes(seen: Seen, bytes: &[u8], count: usize) -> Seen {
     let mut i: usize = 0;
     while i < bytes.len() {
         so_far = hold_byte(so_far, bytes[i], i < count);
+        i += 1;
+    }
+    so_far
+}
+
+fn hold_list_word(seen: Seen, word: u32, is_cleared: bool) -> Seen {
+    if is_cleared {
+        return clear(seen, word == 0);
+    }
+    keep(seen, word == KEPT_SHORT)
+}
+
+// The first words of a borrowed list are 0, and all others are as they were. The line says nothing of lists.
+pub fn hold_list(seen: Seen, words: &[u32], count: usize) -> Seen {
+    let mut so_far = seen;
+    let mut i: usize = 0;
+    while i < words.len() {
+        so_far = hold_list_word(so_far, words[i], i < count);
         i += 1;
     }
     so_far

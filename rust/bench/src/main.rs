@@ -1,10 +1,11 @@
 //! Times of the host's calls against the published Rust, in one process and on the same words.
 //!
-//! Without an argument all parts run; `field`, `programs` or `walk` names one.
+//! Without an argument all parts run; `field`, `programs`, `lower` or `walk` names one.
 
 #![forbid(unsafe_code)]
 
 mod field;
+mod lower;
 mod programs;
 mod summary;
 mod walk;
@@ -21,13 +22,16 @@ fn main() -> ExitCode {
             println!();
             programs::run();
             println!();
+            lower::run();
+            println!();
             walk::run();
         }
         ["field"] => field::run(),
         ["programs"] => programs::run(),
+        ["lower"] => lower::run(),
         ["walk"] => walk::run(),
         _ => {
-            eprintln!("bench: the parts are `field`, `programs` and `walk`");
+            eprintln!("bench: the parts are `field`, `programs`, `lower` and `walk`");
             return ExitCode::FAILURE;
         }
     }

@@ -147,7 +147,7 @@ fn realistic(nodes: usize) -> DeviceProgram {
 /// So many operations: seven of ten base, three with an extension result, of which every other one has a base operand. A
 /// third of the operands are cells of the two rows, constants and uniforms, the others are earlier values. Every twelfth
 /// operation is a constraint, base ones first.
-fn mixture(operations: usize) -> Published {
+pub fn mixture(operations: usize) -> Published {
     let mut random = Random::new(SEED);
     let mut builder: IrBuilder = IrBuilder::new();
     let mut base: Vec<Expr> = vec![builder.main(0, 0)];

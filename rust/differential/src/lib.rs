@@ -1,6 +1,6 @@
 //! What the comparisons in tests/ share: the inputs, the published operations on plain words, the same operations by
-//! plain arithmetic, and the comparison itself; and all of that once more for programs and for blobs. Besides, the lines of
-//! the samples that Rattle programs replay.
+//! plain arithmetic, and the comparison itself; and all of that once more for programs, for lowering and for blobs.
+//! Besides, the lines of the samples that Rattle programs replay.
 //!
 //! The host promises words below p; the published Rust leaves any word with the right remainder. So a published word
 //! is reduced here before it is compared, and the host's is compared as it is.
@@ -10,9 +10,11 @@
 pub mod blobs;
 pub mod inputs;
 pub mod lines;
+pub mod lowering;
 pub mod plain;
 pub mod programs;
 pub mod published;
+pub mod quiet;
 mod tally;
 
 pub use math::field::goldilocks::GOLDILOCKS_PRIME as P;

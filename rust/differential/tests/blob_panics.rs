@@ -5,9 +5,6 @@
 
 #![forbid(unsafe_code)]
 
-use std::panic::{self, AssertUnwindSafe};
-use std::sync::Mutex;
-
 use differential::Score;
 use differential::blobs::damage::{BIT_31, change_some, small_blobs};
 use differential::blobs::published::{DeviceFrame, device};
@@ -15,32 +12,19 @@ use differential::blobs::{BlobWords, Lengths, compare};
 use differential::inputs::Random;
 use differential::programs::compare::{Answer, fresh_words, same_residues};
 use differential::programs::{Cells, PROVER};
+use differential::quiet::unless_it_panics;
 use host::Refusal;
 use host::program::Shape;
 
-/// The hook for panics is one for the whole process.
-static SILENT: Mutex<()> = Mutex::new(());
-
-fn silently<T>(body: impl FnOnce() -> T) -> T {
-    let guard = SILENT.lock().unwrap_or_else(|poisoned| poisoned.into_inner());
-    let loud = panic::take_hook();
-    panic::set_hook(Box::new(|_| ()));
-    let result = panic::catch_unwind(AssertUnwindSafe(body));
-    panic::set_hook(loud);
-    drop(guard);
-    result.unwrap_or_else(|cause| panic::resume_unwind(cause))
-}
-
 /// The evals that the published walk leaves, or nothing if it panics.
 fn published(words: &BlobWords, cells: &Cells, lengths: Lengths) -> Option<(Vec<u64>, Vec<u64>)> {
-    panic::catch_unwind(AssertUnwindSafe(|| {
+    unless_it_panics(|| {
         DeviceFrame::new(cells).evals(
             &device(words),
             &fresh_words(lengths.base_evals),
             &fresh_words(lengths.ext_evals),
         )
-    }))
-    .ok()
+    })
 }
 
 /// The blob that says to ours what the original says to the published walk: every slot is filled with 0 by a node before
@@ -91,35 +75,33 @@ fn published_walk_answers_what_is_legal_once_tidied() {
     let (mut both, mut neither, mut rust_only) = (0, 0, 0);
     let sources = small_blobs(&mut random, 300, 30);
     let mut differing: Vec<String> = Vec::new();
-    silently(|| {
-        for i in 0..blobs {
-            let before = &sources[random.below(sources.len())];
-            let (mut words, mut cells) = before.clone();
-            while (&words, &cells) == (&before.0, &before.1) {
-                change_some(&mut random, &mut words, &mut cells);
-            }
-            let what = format_args!("damaged blob {i} of seed {SEED:#x}");
-            let lengths = Lengths::of(&words.counts);
-            let ours = compare::walk(&mut score, &words, &cells, lengths, what).answer;
-            let tidied = compare::walk(&mut score, &tidied(&words), &cells, lengths, what);
-            let rust = published(&words, &cells, lengths);
-            match (ours, &rust) {
-                (Ok(()), Some(_)) => both += 1,
-                (Err(_), None) => neither += 1,
-                (Err(refusal), Some(_)) if refusal.number == 11 => rust_only += 1,
-                (ours, rust) => differing.push(format!("{what}: ours {ours:?}, Rust {rust:?}, {words:?}")),
-            }
-            match &rust {
-                Some((base, ext)) if tidied.answer.is_ok() => {
-                    same_residues(&mut score, &tidied.base_evals, base, format_args!("tidied, {what}"));
-                    same_residues(&mut score, &tidied.ext_evals, ext, format_args!("tidied, {what}"));
-                    score.agreed += 1;
-                }
-                None if tidied.answer.is_err() => (),
-                _ => differing.push(format!("{what}, tidied: {:?}, {words:?}", tidied.answer)),
-            }
+    for i in 0..blobs {
+        let before = &sources[random.below(sources.len())];
+        let (mut words, mut cells) = before.clone();
+        while (&words, &cells) == (&before.0, &before.1) {
+            change_some(&mut random, &mut words, &mut cells);
         }
-    });
+        let what = format_args!("damaged blob {i} of seed {SEED:#x}");
+        let lengths = Lengths::of(&words.counts);
+        let ours = compare::walk(&mut score, &words, &cells, lengths, what).answer;
+        let tidied = compare::walk(&mut score, &tidied(&words), &cells, lengths, what);
+        let rust = published(&words, &cells, lengths);
+        match (ours, &rust) {
+            (Ok(()), Some(_)) => both += 1,
+            (Err(_), None) => neither += 1,
+            (Err(refusal), Some(_)) if refusal.number == 11 => rust_only += 1,
+            (ours, rust) => differing.push(format!("{what}: ours {ours:?}, Rust {rust:?}, {words:?}")),
+        }
+        match &rust {
+            Some((base, ext)) if tidied.answer.is_ok() => {
+                same_residues(&mut score, &tidied.base_evals, base, format_args!("tidied, {what}"));
+                same_residues(&mut score, &tidied.ext_evals, ext, format_args!("tidied, {what}"));
+                score.agreed += 1;
+            }
+            None if tidied.answer.is_err() => (),
+            _ => differing.push(format!("{what}, tidied: {:?}, {words:?}", tidied.answer)),
+        }
+    }
     println!(
         "where the published walk panics: {blobs} damaged blobs; both answer {both}, the published walk alone {rust_only}, \
          neither {neither}"
@@ -238,7 +220,7 @@ fn each(cases: &[(&str, BlobWords, u64)], number: u8, rust_answers: bool) {
         let ours: Answer = compare::walk(&mut score, words, &cells, lengths, format_args!("{name}")).answer;
         let expected = Refusal { number, place: *place };
         assert_eq!(ours, Err(expected), "{name}");
-        let answered = silently(|| published(words, &cells, lengths).is_some());
+        let answered = published(words, &cells, lengths).is_some();
         assert_eq!(answered, rust_answers, "{name}: whether the published walk answers");
     }
     score.finish(&[number.into()]);

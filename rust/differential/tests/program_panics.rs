@@ -5,19 +5,18 @@
 
 #![forbid(unsafe_code)]
 
-use std::panic::{self, AssertUnwindSafe};
-
 use differential::Score;
 use differential::inputs::Random;
 use differential::programs::build::{Recipe, build};
 use differential::programs::compare::{self, Asked, Lengths};
 use differential::programs::published::{self, ProverFrame, VerifierFrame};
 use differential::programs::{Cells, PROVER, VERIFIER};
+use differential::quiet::unless_it_panics;
 use host::program::Shape;
 use stark::constraint_ir::IrBuilder;
 
 fn panics(body: impl FnOnce()) -> bool {
-    panic::catch_unwind(AssertUnwindSafe(body)).is_err()
+    unless_it_panics(body).is_none()
 }
 
 #[test]
@@ -26,8 +25,6 @@ fn published_rust_panics_where_the_host_refuses() {
     let programs = if cfg!(debug_assertions) { 500 } else { 10_000 };
     let mut random = Random::new(SEED);
     let mut score = Score::new("where the published Rust panics");
-    let loud = panic::take_hook();
-    panic::set_hook(Box::new(|_| ()));
     let mut differing = Vec::new();
     for i in 0..programs {
         let shape = |random: &mut Random| Shape {
@@ -100,7 +97,6 @@ fn published_rust_panics_where_the_host_refuses() {
     let lengths = Lengths::prover(&words);
     let answer = compare::eval_program(&mut score, &words, &cells, lengths, format_args!("five steps")).answer;
     let panicked = panics(|| drop(ProverFrame::new(&cells).eval(&program, &[0], &[])));
-    panic::set_hook(loud);
     println!("where the published Rust panics: {programs} programs");
     assert_eq!(differing, Vec::<String>::new());
     assert_eq!((answer, panicked), (Ok(()), true), "five steps");

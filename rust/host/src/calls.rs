@@ -1,5 +1,5 @@
 //! The calls of the static library, as it exports them. A Rattle `&[T]` or `&mut [T]` is a pointer and then a length in
-//! elements; a `&mut u64` is a pointer.
+//! elements; a `&mut u64` or `&mut u32` is a pointer.
 //!
 //! Nothing checks these declarations against the library: hold them beside its source.
 
@@ -113,6 +113,31 @@ on_frame!(fn cir_eval_program_verifier(
     ext_evals_len: usize,
     room: *mut u64,
     room_len: usize
+));
+
+on_program!(fn cir_lower(
+    ;
+    used: *mut u32,
+    used_len: usize,
+    last_use: *mut u32,
+    last_use_len: usize,
+    is_root: *mut u32,
+    is_root_len: usize,
+    slot_of: *mut u32,
+    slot_of_len: usize,
+    free_slots: *mut u32,
+    free_slots_len: usize,
+    out_nodes: *mut u32,
+    out_nodes_len: usize,
+    out_base_consts: *mut u64,
+    out_base_consts_len: usize,
+    out_ext_consts: *mut u64,
+    out_ext_consts_len: usize,
+    out_roots: *mut u32,
+    out_roots_len: usize,
+    node_count: *mut u32,
+    base_slots: *mut u32,
+    ext_slots: *mut u32
 ));
 
 /// Declares a call on a blob: counts, the shape of a frame, numbers of its own, the blob's tables and other memory.

@@ -5,18 +5,20 @@
 //!
 //! Memory is lent as slices, so a length always belongs to its pointer, and what a call writes overlaps nothing that
 //! it reads. A call that cannot do its work answers a [`Refusal`] and has changed nothing, but for the bytes that the
-//! calls on blobs borrow.
+//! calls on blobs borrow and the lists that lowering borrows.
 
 pub mod blob;
 mod calls;
 pub mod ext;
 pub mod field;
+pub mod lower;
 pub mod program;
 
 /// The field's prime, 2^64 - 2^32 + 1.
 pub const P: u64 = 0xFFFF_FFFF_0000_0001;
 
-/// A call's answer other than "done". Whatever was lent is as it was, but for the bytes of [`blob`].
+/// A call's answer other than "done". Whatever was lent is as it was, but for the bytes of [`blob`] and the lists of
+/// [`mod@lower`].
 #[derive(Clone, Copy, Debug, PartialEq, Eq)]
 pub struct Refusal {
     /// The reason's number.

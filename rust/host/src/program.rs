@@ -11,7 +11,7 @@
 //! Every call takes its refusals in one order, 8, 9, 2, 1, 14, 6, 7, 13, 12, 10, without those that cannot happen in it,
 //! and answers the first that holds.
 
-use crate::{Refusal, calls, done};
+use crate::{Refusal, done};
 
 /// How many of each thing a program has.
 #[derive(Clone, Copy, Debug, Default, PartialEq, Eq)]
@@ -73,9 +73,9 @@ pub struct Frame<'a> {
 /// parameters are many: they stand here once for all calls.
 macro_rules! on_program {
     ($call:ident, $program:expr, [$($number:expr),*], [$($memory:expr),*]) => {{
-        let program: &Program = $program;
+        let program: &$crate::program::Program = $program;
         let counts = program.counts;
-        calls::$call(
+        $crate::calls::$call(
             counts.nodes,
             counts.base_consts,
             counts.ext_consts,
@@ -94,6 +94,8 @@ macro_rules! on_program {
         )
     }};
 }
+
+pub(crate) use on_program;
 
 /// Calls the library on a program and a frame, with the memory that the call writes.
 macro_rules! on_frame {

@@ -1,4 +1,5 @@
-//! Prints the fixed sample of blobs. `differential::blobs::sample` says what the numbers of a line are.
+//! Prints the fixed sample of blobs and of programs to be lowered. `differential::blobs::sample` and
+//! `differential::lowering::sample` say what the numbers of a line are.
 
 #![forbid(unsafe_code)]
 

@@ -4,7 +4,7 @@
 //! The numbers of a line, in this order:
 //!
 //! 1. how many numbers follow on the line;
-//! 2. the kind of the line: 1, a blob with a frame; there is no other yet;
+//! 2. the kind of the line: 1, a blob with a frame; for kind 2 see [`crate::lowering::sample`];
 //! 3. the counts: nodes, base constants, extension constants, roots, num_base, base slots, extension slots;
 //! 4. the shape: steps, main width, aux width, challenges, alphas;
 //! 5. the table offset: three words;
@@ -27,6 +27,7 @@ use super::{BlobWords, published as device};
 use crate::P;
 use crate::inputs::Random;
 use crate::lines::Line;
+use crate::lowering::sample as lowering;
 use crate::plain::{blob as plain, program as plain_program};
 use crate::programs::{Cells, PROVER, published, sample};
 
@@ -333,7 +334,7 @@ fn line(lease: &Lease) -> String {
     line.finish()
 }
 
-/// The sample.
+/// The sample: blobs, then programs to be lowered.
 pub fn lines() -> Vec<String> {
-    cases().iter().map(line).collect()
+    cases().iter().map(line).chain(lowering::lines()).collect()
 }

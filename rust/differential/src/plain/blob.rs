@@ -10,13 +10,13 @@ use host::Refusal;
 use host::blob::{Blob, BlobCounts, Written};
 use host::program::{Frame, Shape};
 
-const BIT_31: u32 = 1 << 31;
+pub(super) const BIT_31: u32 = 1 << 31;
 
 /// A slot: whether it is an extension slot, and which one.
 #[derive(Clone, Copy, PartialEq, Eq, PartialOrd, Ord)]
-struct Slot {
-    extension: bool,
-    number: u32,
+pub(super) struct Slot {
+    pub(super) extension: bool,
+    pub(super) number: u32,
 }
 
 impl Slot {

@@ -31,7 +31,7 @@ pub(super) fn refuse_at_lowest(number: u8, mut wrong: impl Iterator<Item = bool>
 
 /// What a node computes.
 #[derive(Clone, Copy)]
-enum Meaning {
+pub(super) enum Meaning {
     BaseConstant(usize),
     ExtConstant(usize),
     Main { step: usize, column: usize },
@@ -50,9 +50,9 @@ use Meaning::{Add, Alpha, Aux, BaseConstant, Challenge, Embed, ExtConstant, Main
 
 /// A node of a well-formed program.
 #[derive(Clone, Copy)]
-struct Node {
-    meaning: Meaning,
-    extension: bool,
+pub(super) struct Node {
+    pub(super) meaning: Meaning,
+    pub(super) extension: bool,
 }
 
 /// The node that four words stand for, if they may stand at the end of `before`.
@@ -104,7 +104,7 @@ fn node(words: &[u32], before: &[Node], program: &Program) -> Option<Node> {
 }
 
 /// 7, or the program's nodes. The lent words hold what the counts say.
-fn well_formed(program: &Program) -> Result<Vec<Node>, Refusal> {
+pub(super) fn well_formed(program: &Program) -> Result<Vec<Node>, Refusal> {
     let mut nodes = Vec::with_capacity(program.counts.nodes);
     for (id, words) in program.nodes.chunks_exact(4).take(program.counts.nodes).enumerate() {
         match node(words, &nodes, program) {
@@ -116,7 +116,7 @@ fn well_formed(program: &Program) -> Result<Vec<Node>, Refusal> {
     Ok(nodes)
 }
 
-fn roots<'a>(program: &Program<'a>) -> impl Iterator<Item = usize> + use<'a> {
+pub(super) fn roots<'a>(program: &Program<'a>) -> impl Iterator<Item = usize> + use<'a> {
     program
         .roots
         .iter()
@@ -125,7 +125,7 @@ fn roots<'a>(program: &Program<'a>) -> impl Iterator<Item = usize> + use<'a> {
 }
 
 /// 8, then 9.
-fn counts_fit(program: &Program) -> Answer {
+pub(super) fn counts_fit(program: &Program) -> Answer {
     let counts = &program.counts;
     let most = counts.nodes.max(counts.base_consts).max(counts.ext_consts);
     refuse_if(8, 536_870_911 < most)?;
@@ -149,7 +149,7 @@ pub(super) fn short(words: usize, needed: &[usize]) -> bool {
 }
 
 /// Whether a table of the program is shorter than the counts need.
-fn program_short(program: &Program) -> bool {
+pub(super) fn program_short(program: &Program) -> bool {
     let counts = &program.counts;
     short(program.nodes.len(), &[4, counts.nodes])
         || short(program.base_consts.len(), &[counts.base_consts])

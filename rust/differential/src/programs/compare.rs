@@ -16,7 +16,7 @@ use crate::{P, Score};
 pub type Answer = Result<(), Refusal>;
 
 /// Words kept on either side of what is lent for writing.
-const GUARD: usize = 4;
+pub(crate) const GUARD: usize = 4;
 
 /// Memory lent for writing, once for each side.
 pub(crate) struct Lent<T> {

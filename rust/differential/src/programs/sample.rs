@@ -57,7 +57,7 @@ impl Sampled {
 }
 
 /// A builder's program.
-fn built(num_base: usize, body: impl FnOnce(&mut IrBuilder)) -> Words {
+pub fn built(num_base: usize, body: impl FnOnce(&mut IrBuilder)) -> Words {
     let mut builder = IrBuilder::new();
     body(&mut builder);
     published::words(&builder.finish(num_base))
@@ -72,7 +72,7 @@ fn one(num_base: usize, body: impl FnOnce(&mut IrBuilder) -> Expr) -> Words {
 }
 
 /// A program as it stands in words.
-fn raw(nodes: &[[u32; 4]], base_consts: &[u64], ext_consts: &[Limbs], roots: &[u32], num_base: usize) -> Words {
+pub fn raw(nodes: &[[u32; 4]], base_consts: &[u64], ext_consts: &[Limbs], roots: &[u32], num_base: usize) -> Words {
     Words {
         counts: Counts {
             nodes: nodes.len(),
