@@ -12,10 +12,11 @@ use Rattle.ir.proofs.RefusalLaws.{refusal-number}
 use Rattle.device.specs.declared.blob.BlobCounts.{BlobCounts}
 use Rattle.lower.specs.declared.lower.Lowering.{Lowering}
 use Rattle.lower.specs.declared.lower.Lowering.the-variants.{Lowered, Refused}
-use Rattle.lower.specs.Answer.{Lists, Output, saidOfLowering, LowerAnswer}
+use Rattle.lower.specs.Answer.{Lists, Output, saidOfLowering, lowerSaid, LowerAnswer}
 use Rattle.lower.proofs.Single.{lower-single}
 use Rattle.host.specs.ProgramCalls.{answerOf}
 use Rattle.host.specs.LowerCalls.{valueOnDone, CalledLower}
+use Rattle.host.proofs.PlaceLaws.{Parts, parts-of, lower-fits}
 
 -- a refusal writes no value
 kept : (why : Refusal) (k old : ℕ) → old ≡ valueOnDone (saidOf why) k old
@@ -49,3 +50,7 @@ cir-lower-single {count} {bs} {xs} f g =
       f .base-slots ∙ ap (λ (w : Lowering). valueOnDone (saidOfLowering w) 5 bs) (q .0) ∙ sym (g .base-slots),
       f .ext-slots ∙ ap (λ (w : Lowering). valueOnDone (saidOfLowering w) 6 xs) (q .0) ∙ sym (g .ext-slots),
     )
+
+-- number and place can be read back from an answer
+pub cir-lower-parts : {p : Program} {b b′ : Lists} {o o′ : Output} {a count count′ bs bs′ xs xs′ : ℕ} → CalledLower (λ w. LowerAnswer p b o w b′ o′) a count count′ bs bs′ xs xs′ → Parts a (lowerSaid p b o)
+cir-lower-parts {p} {b} {b′} {o} f = parts-of (lowerSaid p b o) (lower-fits p b o) (f .answered ∙ ap answerOf (f .promised .said))

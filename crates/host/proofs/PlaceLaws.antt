@@ -26,6 +26,8 @@ use Rattle.interp.specs.Values.{values}
 use Rattle.interp.specs.Evals.{baseWord}
 use Rattle.interp.specs.Frame.{Lent, leaves, rowStrides, nodeOutside, frameLimits, rowLimits}
 use Rattle.interp.specs.Evaluation.{memoryRows, formRows, extRoot, proverRest, proverRows, verifierRest, verifierRows, rowShape, askedRow, rowRest, rowRows, lengths, ProverAnswer, VerifierAnswer, RowAnswer}
+use Rattle.lower.specs.Lower.{blobOf}
+use Rattle.lower.specs.Answer.{Lists, Output, lowering, lowerRows, lowerSaid, countsOf}
 use Rattle.host.specs.ProgramCalls.{answerOf, Called, CalledBase, CalledReads}
 
 -- the places that 48 bits hold
@@ -49,7 +51,7 @@ parts s f =
       place-is = rw (mod-eq-of-lt (f .place-low)) (omega (arith, f .number-low));
     }
 
-parts-of : {a : ℕ} (s : Said) → Fits s → a ≡ answerOf s → Parts a s
+pub parts-of : {a : ℕ} (s : Said) → Fits s → a ≡ answerOf s → Parts a s
 parts-of s f e = rw e (parts s f)
 
 -- ---- rows, each where those before it do not hold
@@ -114,6 +116,12 @@ unfolding readsSaid
 reads-fit p width room =
     first-fits (readsRows p width room) (length (columnsOf p width) ∷ [])
     (lit< tt, lit< tt, λ h. (lit< tt, lit< tt, λ k. (lit< tt, lit< tt, λ _. (lit< tt, lit< tt, λ _. (lit< tt, ill-formed-low (p .counts) h k (p .nodes) (p .roots), λ _. (lit< tt, lit< tt, λ _. tt))))))
+
+pub lower-fits : (p : Program) (b : Lists) (o : Output) → Fits (lowerSaid p b o)
+unfolding lowerSaid
+lower-fits p b o =
+    first-fits (lowerRows p b o) (countsOf (blobOf (p .counts) (lowering p) .counts))
+    (lit< tt, lit< tt, λ h. (lit< tt, lit< tt, λ k. (lit< tt, lit< tt, λ _. (lit< tt, ill-formed-low (p .counts) h k (p .nodes) (p .roots), λ _. (lit< tt, lit< tt, λ _. tt)))))
 
 module _ (c : Counts) (l : Lengths) (m : Limits) (nodes roots : List ℕ) where
   pub prover-fits : (s : Shape) (base ext : ℕ) → Fits (first (proverRows c s l base ext m nodes roots) (gives []))

@@ -20,16 +20,13 @@ use Rattle.scan.specs.Arrays.{Tab, listed, Alive, Begins, Scanned, ClassOk}
 use Rattle.lower.specs.Inner.{RootOk, RootsOk, WriteOk, BlobWritten}
 use Rattle.scan.proofs.LiveLaws.{live-sound}
 use Rattle.scan.proofs.ScanLaws.{scan-kept, root-held, next-le}
+use Rattle.scan.proofs.Single.{tabulate-same}
 use Rattle.scan.proofs.WordLaws.{flat-length}
 use Rattle.scan.proofs.AgreeLaws.{Agree, agree, scannable, scan-same, out-count, operand-before, dim-two}
 
 -- words in a row over what was there
 over-rows : (k : ℕ) (f : ℕ → ℕ) (old : List ℕ) → tabulate k f ++ drop k old ≡ over (tabulate k f) old
 over-rows k f old = rw (length-tabulate k f) refl
-
-tabulate-same : (k : ℕ) (f g : ℕ → ℕ) → ((i : ℕ) → i < k → f i ≡ g i) → tabulate k f ≡ tabulate k g
-tabulate-same zero f g h = refl
-tabulate-same (suc k) f g h = rw (h 0 (omega arith), tabulate-same k (λ i. f (suc i)) (λ i. g (suc i)) (λ i b. h (suc i) (omega arith))) refl
 
 module _ (c : Counts) (nodes bases exts roots emitted last pinned slot free : List ℕ) (count : ℕ) (out-nodes out-bases out-exts out-roots : List ℕ)
     (g : WriteOk c nodes bases exts roots emitted last pinned slot free count out-nodes out-bases out-exts out-roots) where

@@ -56,6 +56,7 @@ fn copy_constants(count: usize, from: &[u64], to: &mut [u64])
     }
 }
 
+// Bit 31 is the class.
 fn result_word(class: u32, slot: u32) -> u32
     requires { ⌜ (class < 2) × (0 < slot) × (slot ≤ 536870912) ⌝ }
     ensures { λ r. ⌜ r ≡ class * 2147483648 + (slot - 1) ⌝ }
@@ -72,6 +73,7 @@ fn root_word(j: u32, nodes: &[u32], slot_of: &[u32]) -> u32
     result_word(nodes[4 * at + 3], slot_of[at])
 }
 
+// The roots' words over those lent.
 fn write_roots(count: usize, nodes: &[u32], roots: &[u32], slot_of: &[u32], out: &mut [u32])
     requires { ⌜ RootsOk count (now nodes) (now roots) (now «slot_of») × (count ≤ length (now out)) ⌝ }
     ensures { λ _. ⌜ now (out .exit) ≡ tabulate count (λ r. rootWord (now (nodes .entry)) (λ k. getD (now («slot_of» .entry)) k 0) (getD (now (roots .entry)) r 0)) ++ drop count (now (out .entry)) ⌝ }
@@ -131,6 +133,7 @@ fn clear_lists(
     clear(free, 2 * n);
 }
 
+// A list is shorter than n nodes need.
 fn short_lists(n: usize, used: usize, last: usize, root: usize, slot: usize, free: usize) -> bool
     requires { ⌜ n ≤ 536870911 ⌝ }
     ensures { λ r. ⌜ r ≡ (ltb used n || ltb last n || ltb root n || ltb slot n || ltb free (2 * n)) ⌝ }

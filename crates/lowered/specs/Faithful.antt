@@ -97,6 +97,6 @@ AnyLivenessIsFaithful =
     → tooManyNodes c ≡ false → illFormed c nodes roots ≡ none → lowest (nodeOutside (frameLimits s) nodes) (c .nodes) ≡ none → extRoot c nodes roots ≡ none → Sound c nodes roots v
     → (first (legalRows (blobOf c (lowered c nodes roots bases exts v)) s) (gives []) ≡ gives [])
     × ((r : ℕ) → r < c .roots
-      → after (slotsAfter K tags kinds (blobOf c (lowered c nodes roots bases exts v) .counts) s u (lowered c nodes roots bases exts v .nodes) (lowered c nodes roots bases exts v .count))
-      (λ m. rootHeld m (getD (lowered c nodes roots bases exts v .roots) r 0))
-      ≡ some (values K (leavesOf u) nodes (c .nodes) (getD roots r 0)))
+    → after (slotsAfter K tags kinds (blobOf c (lowered c nodes roots bases exts v) .counts) s u (lowered c nodes roots bases exts v .nodes) (lowered c nodes roots bases exts v .count))
+    (λ m. rootHeld m (getD (lowered c nodes roots bases exts v .roots) r 0))
+    ≡ some (values K (leavesOf u) nodes (c .nodes) (getD roots r 0)))

@@ -5,6 +5,7 @@ pub mod MarkLaws
 pub mod PoolLaws
 pub mod ReadyLaws
 pub mod ScanLaws
+pub mod Single
 pub mod SlotLaws
 pub mod StepLaws
 pub mod WordLaws

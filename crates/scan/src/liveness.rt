@@ -17,6 +17,7 @@ fn note(i: u32, j: usize, used: &mut [u32], last_use: &mut [u32])
     last_use[j] = i;
 }
 
+// Node i marks what it reads.
 fn mark_node(i: u32, tag: u32, x: u32, y: u32, used: &mut [u32], last_use: &mut [u32])
     requires { ⌜ OperandsBelow tag x y (length (now used)) × (length (now last_use) ≡ length (now used)) ⌝ }
     ensures { λ _. ⌜ NodeMarked i tag x y (now (used .entry)) (now (last_use .entry)) (now (used .exit)) (now (last_use .exit)) ⌝ }
@@ -30,7 +31,8 @@ fn mark_node(i: u32, tag: u32, x: u32, y: u32, used: &mut [u32], last_use: &mut 
     }
 }
 
-pub fn mark_readers(n: usize, nodes: &[u32], used: &mut [u32], last_use: &mut [u32])
+// Every node marks what it reads, dead or not; the last reader stays.
+fn mark_readers(n: usize, nodes: &[u32], used: &mut [u32], last_use: &mut [u32])
     requires { ⌜ NodesBelow (now nodes) n × (n < 536870912) × Readers (now nodes) 0 n (now used) (now last_use) ⌝ }
     ensures { λ _. ⌜ Readers (now (nodes .entry)) n n (now (used .exit)) (now (last_use .exit)) ⌝ }
 {
@@ -57,7 +59,8 @@ fn pin(j: u32, is_root: &mut [u32])
     is_root[j as usize] = 1;
 }
 
-pub fn mark_roots(n: usize, count: usize, roots: &[u32], is_root: &mut [u32])
+// Roots are never given back.
+fn mark_roots(n: usize, count: usize, roots: &[u32], is_root: &mut [u32])
     requires { ⌜ RootsBelow (now roots) count n × Rooted (now roots) 0 n (now «is_root») ⌝ }
     ensures { λ _. ⌜ Rooted (now (roots .entry)) count n (now («is_root» .exit)) ⌝ }
 {
@@ -92,7 +95,7 @@ fn word(b: bool) -> u32
 }
 
 // The words of use become words of emission; says how many nodes are emitted.
-pub fn mark_emitted(nodes: &[u32], is_root: &[u32], used: &mut [u32]) -> usize
+fn mark_emitted(nodes: &[u32], is_root: &[u32], used: &mut [u32]) -> usize
     requires { ⌜ (4 * length (now used) ≤ length (now nodes)) × (length (now «is_root») ≡ length (now used)) ⌝ }
     ensures { λ r. ⌜ Emits (length (now (used .entry))) (now (nodes .entry)) (now («is_root» .entry)) (now (used .entry)) (now (used .exit)) r ⌝ }
 {

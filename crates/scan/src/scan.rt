@@ -48,12 +48,14 @@ fn take(class: usize, free: &[u32], pools: Pools) -> Taken
     }
 }
 
+// Apart, since a word read from a slice has no bound where it is cast.
 fn index(x: u32) -> usize
     ensures { λ r. ⌜ r ≡ x ⌝ }
 {
     x as usize
 }
 
+// A node's dim, 0 or 1, is the class of its slot.
 fn class_of(nodes: &[u32], j: usize) -> usize
     requires { ⌜ ClassOk (now nodes) j ⌝ }
     ensures { λ r. ⌜ r ≡ nodeAt (now (nodes .entry)) j .dim ⌝ }
@@ -116,6 +118,7 @@ fn enc_uniform(tag: u32, x: u32) -> u32
     (tag + 1) * OPK_STEP + x
 }
 
+// A slot: its class is its kind.
 fn enc_slot(class: u32, slot: u32) -> u32
     requires { ⌜ (class < 2) × (0 < slot) × (slot ≤ 536870912) ⌝ }
     ensures { λ r. ⌜ r ≡ class * 536870912 + (slot - 1) ⌝ }
@@ -143,6 +146,7 @@ struct Words {
     b: u32,
 }
 
+// Leaves keep their words; operands are encoded by what they have now.
 fn spell(i: usize, nodes: &[u32], emitted: &[u32], slot_of: &[u32]) -> Words
     requires { ⌜ WordsOk i (now nodes) (now emitted) (now «slot_of») ⌝ }
     ensures { λ r. ⌜ Spelt i (now (nodes .entry)) (now (emitted .entry)) (now («slot_of» .entry)) (r .op) (r .a) (r .b) ⌝ }
