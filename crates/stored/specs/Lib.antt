@@ -1,0 +1,4 @@
+-- Stored form A.
+pub mod Answer
+pub mod ExampleE
+pub mod Form

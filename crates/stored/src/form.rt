@@ -1,0 +1,30 @@
+// What writing and reading share: how long a body is, and whether tables are long enough.
+ghost use mathlib.Core.Path.{_≡_};
+ghost use Rattle.stored.specs.Form.{distance};
+ghost use Rattle.stored.specs.Answer.{short};
+use device::blob::BlobCounts;
+
+// The trailer: eight words of 4 bytes.
+pub const TRAILER_BYTES: usize = 32;
+
+// From the trailer back to the first byte, in words of 4 bytes. Counts of 32 bits keep it far below 64.
+pub fn body_words(c: BlobCounts) -> usize
+    ensures { λ r. ⌜ r ≡ distance c ⌝ }
+{
+    4 * (c.nodes as usize) + 2 * (c.bases as usize) + 6 * (c.exts as usize) + c.roots as usize
+}
+
+pub fn short_tables(c: BlobCounts, nodes: usize, bases: usize, exts: usize, roots: usize) -> bool
+    ensures { λ r. ⌜ r ≡ short c nodes bases exts roots ⌝ }
+{
+    if nodes < 4 * (c.nodes as usize) {
+        return true;
+    }
+    if bases < c.bases as usize {
+        return true;
+    }
+    if exts < 3 * (c.exts as usize) {
+        return true;
+    }
+    roots < c.roots as usize
+}
