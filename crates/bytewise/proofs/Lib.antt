@@ -1,0 +1,4 @@
+-- Lemmas of the calls on bytes.
+pub mod AnswerLaws
+pub mod Single
+pub mod WordLaws

@@ -1,0 +1,4 @@
+-- Calls on bytes.
+pub mod Checking
+pub mod Lowering
+pub mod Words
