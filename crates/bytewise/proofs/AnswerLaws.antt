@@ -1,19 +1,37 @@
 -- What the calls on bytes answer, case by case.
 -- Assumes nothing.
+use mathlib.Core.Bool.{Bool, true, false, _||_}
 use mathlib.Core.List.{List}
-use mathlib.Core.Path.{_≡_, refl, sym, ap, _∙_}
-use Prim.Native.Nat.{ℕ}
+use mathlib.Core.Path.{_≡_, refl, sym, ap, subst, _∙_}
+use Prim.Native.Nat.{ℕ, _/_, _≤_}
 use native.Mathlib.Omega.{arith}
+use lib.Dec.{ltb}
+use lib.ListN.{length, take}
+use lib.Seq.{length-take-le}
+use borrow.Author.Tests.{ltb-false}
+use Rattle.laws.proofs.Tests.{or-left, or-right, clash}
+use Rattle.ir.specs.declared.program.Counts.{Counts}
 use Rattle.ir.specs.declared.frame.Shape.{Shape}
 use Rattle.ir.specs.declared.refusal.Refusal.{Refusal}
+use Rattle.ir.specs.declared.refusal.Refusal.the-variants.{ShortMemory}
 use Rattle.ir.specs.declared.refusal.Outcome.{Outcome}
 use Rattle.ir.specs.declared.refusal.Outcome.the-variants as Outcome
+use Rattle.ir.specs.Program.{Program}
 use Rattle.device.specs.declared.blob.BlobCounts.{BlobCounts}
 use Rattle.device.specs.Check.{CheckAnswer}
+use Rattle.lower.specs.declared.lower.Lowering.{Lowering}
+use Rattle.lower.specs.declared.lower.Lowering.the-variants as Lowering
+use Rattle.lower.specs.Answer.{Lists, Output, LowerAnswer}
 use Rattle.stored.specs.declared.read.ReadStored.{ReadStored}
 use Rattle.stored.specs.declared.read.ReadStored.the-variants as ReadStored
+use Rattle.stored.specs.declared.write.Stored.{Stored}
+use Rattle.stored.specs.declared.write.Stored.the-variants as Stored
 use Rattle.stored.specs.Form.{Tables}
-use Rattle.stored.specs.Answer.{ReadAnswer}
+use Rattle.stored.specs.Answer.{put, ReadAnswer, WriteAnswer}
+use Rattle.stored.proofs.FormLaws.{sets-long}
+use Rattle.bytewise.specs.Words.{whole, wordsIn}
+use Rattle.bytewise.specs.Lowering.{wordsOf, shortFor, Roomy, program, tablesOut, LowerFile, LowerStored}
+use Rattle.bytewise.proofs.WordLaws.{unpacked}
 use Rattle.bytewise.specs.Checking.{blobIn, CheckStored}
 
 -- ---- reading: one case or the other
@@ -46,4 +64,114 @@ module _ {s : Shape} {file : List ℕ} {rooms rooms′ : Tables} {marks : List �
         promised = p;
         refused = λ w q. absurd (read-both read q e);
         checked = λ d q. rw (read-counts read q e) a;
+      }
+
+-- ---- lowering: one case or the other
+
+lowering-why : (l : Lowering) {why why′ : Refusal} → l ≡ Lowering.Refused why → l ≡ Lowering.Refused why′ → why ≡ why′
+lowering-why l p q = cc
+
+lowering-counts : (l : Lowering) {c c′ : BlobCounts} → l ≡ Lowering.Lowered c → l ≡ Lowering.Lowered c′ → c ≡ c′
+lowering-counts l p q = cc
+
+lowering-both : (l : Lowering) {why : Refusal} {c : BlobCounts} → l ≡ Lowering.Refused why → l ≡ Lowering.Lowered c → ⊥
+lowering-both l p q = let z : _≡_ {A = ℕ} 0 1 = cc in omega arith
+
+module _ {p : Program} {lists lists′ : Lists} {out out′ : Output} {file : List ℕ} {lowered : Lowering} (a : LowerAnswer p lists out lowered lists′ out′) where
+  pub file-refused : {why : Refusal} → lowered ≡ Lowering.Refused why → LowerFile p lists out file (Stored.Refused why) lists′ out′ file
+  file-refused e =
+      record {
+        lowered = lowered;
+        promised = a;
+        refused = λ w q. (ap Stored.Refused (lowering-why lowered e q), refl);
+        written = λ k q. absurd (lowering-both lowered e q);
+      }
+
+  pub file-written : {k : BlobCounts} {answer : Stored} {file′ : List ℕ} → lowered ≡ Lowering.Lowered k → WriteAnswer k (tablesOut out′) file answer file′ → LowerFile p lists out file answer lists′ out′ file′
+  file-written e w =
+      record {
+        lowered = lowered;
+        promised = a;
+        refused = λ r q. absurd (lowering-both lowered q e);
+        written = λ k q. rw (lowering-counts lowered q e) w;
+      }
+
+-- ---- a program's tables in rooms
+
+pub roomy : (t rooms : Tables) → shortFor t rooms ≡ false → Roomy t rooms
+roomy t rooms h =
+    let n = ltb (length (rooms .nodes)) (length (t .nodes) / 4) in
+    let b = ltb (length (rooms .bases)) (length (t .bases) / 8) in
+    let x = ltb (length (rooms .exts)) (length (t .exts) / 8) in
+    let r = ltb (length (rooms .roots)) (length (t .roots) / 4) in
+    let nbx = or-left (n || b || x) r h in
+    let nb = or-left (n || b) x nbx in
+    record {
+      nodes-fit = ltb-false _ _ (or-left n b nb);
+      bases-fit = ltb-false _ _ (or-right n b nb);
+      exts-fit = ltb-false _ _ (or-right (n || b) x nbx);
+      roots-fit = ltb-false _ _ (or-right (n || b || x) r h);
+    }
+
+-- the first words of each room, as many as are whole in the table's bytes
+abbrev pub fronts : Tables → Tables → Tables
+fronts t rooms =
+    record {
+      nodes = take (whole 4 (t .nodes)) (rooms .nodes);
+      bases = take (whole 8 (t .bases)) (rooms .bases);
+      exts = take (whole 8 (t .exts)) (rooms .exts);
+      roots = take (whole 4 (t .roots)) (rooms .roots);
+    }
+
+-- rooms are as long as before
+pub record AsLong (old new : Tables) : Type 0 where
+  pub nodes-as : length (new .nodes) ≡ length (old .nodes)
+  pub bases-as : length (new .bases) ≡ length (old .bases)
+  pub exts-as : length (new .exts) ≡ length (old .exts)
+  pub roots-as : length (new .roots) ≡ length (old .roots)
+
+pub as-long : (t rooms : Tables) {rooms′ : Tables} → rooms′ ≡ put t rooms → AsLong rooms rooms′
+as-long t rooms e =
+    record {
+      nodes-as = sets-long (rooms .nodes) 0 (t .nodes) (ap (λ (r : Tables). r .nodes) e);
+      bases-as = sets-long (rooms .bases) 0 (t .bases) (ap (λ (r : Tables). r .bases) e);
+      exts-as = sets-long (rooms .exts) 0 (t .exts) (ap (λ (r : Tables). r .exts) e);
+      roots-as = sets-long (rooms .roots) 0 (t .roots) (ap (λ (r : Tables). r .roots) e);
+    }
+
+pub still-roomy : (t rooms : Tables) {rooms′ : Tables} → Roomy t rooms → rooms′ ≡ put (wordsOf t) rooms → Roomy t rooms′
+still-roomy t rooms f e =
+    let k = as-long (wordsOf t) rooms e in
+    record {
+      nodes-fit = rw (k .nodes-as) (f .nodes-fit);
+      bases-fit = rw (k .bases-as) (f .bases-fit);
+      exts-fit = rw (k .exts-as) (f .exts-fit);
+      roots-fit = rw (k .roots-as) (f .roots-fit);
+    }
+
+-- the fronts' lengths
+pub front-long : (k : ℕ) (l : List ℕ) → k ≤ length l → k ≡ length (take k l)
+front-long k l h = sym (length-take-le k l h)
+
+-- they are the table's words
+pub fronts-are : (t rooms : Tables) {rooms′ : Tables} → Roomy t rooms → rooms′ ≡ put (wordsOf t) rooms → fronts t rooms′ ≡ wordsOf t
+fronts-are t rooms f e =
+    ap (fronts t) e
+    ∙ rw (unpacked 4 (t .nodes) (rooms .nodes) (f .nodes-fit) refl, unpacked 8 (t .bases) (rooms .bases) (f .bases-fit) refl, unpacked 8 (t .exts) (rooms .exts) (f .exts-fit) refl, unpacked 4 (t .roots) (rooms .roots) (f .roots-fit) refl)
+
+module _ (c : Counts) (t rooms : Tables) {lists : Lists} {out : Output} {file : List ℕ} {s : Bool} (e : s ≡ shortFor t rooms) where
+  pub lower-short : s ≡ true → LowerStored c t rooms lists out file (Stored.Refused ShortMemory) rooms lists out file
+  lower-short h =
+      record {
+        short = λ q. (refl, refl, refl, refl, refl);
+        unpacked = λ q. clash (sym e ∙ h) q;
+        lowering = λ q. clash (sym e ∙ h) q;
+      }
+
+  pub lower-done : s ≡ false → {rooms′ : Tables} {answer : Stored} {lists′ : Lists} {out′ : Output} {file′ : List ℕ} → rooms′ ≡ put (wordsOf t) rooms → LowerFile (program c (fronts t rooms′)) lists out file answer lists′ out′ file′ → LowerStored c t rooms lists out file answer rooms′ lists′ out′ file′
+  lower-done h {answer = answer} {lists′ = lists′} {out′ = out′} {file′ = file′} u f =
+      record {
+        short = λ q. clash q (sym e ∙ h);
+        unpacked = λ q. u;
+        lowering = λ q. subst (λ (x : Tables). LowerFile (program c x) lists out file answer lists′ out′ file′) (fronts-are t rooms (roomy t rooms (sym e ∙ h)) u) f;
       }
