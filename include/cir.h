@@ -8,7 +8,7 @@
  *
  * A call with an answer gives 0 for "done", or 1 where a slice is too short; then no word has changed. A call on programs
  * or blobs answers a refusal as its number plus 256 times its place; then too no word has changed, but for the bytes that
- * a call on blobs borrows and the lists that lowering borrows.
+ * a call on blobs borrows, the lists that lowering borrows and the rooms that a call on bytes does.
  *
  * The numbers of program calls, in the order in which they are tested; where several hold, the first is given:
  *
@@ -30,6 +30,11 @@
  *   14  eval buffers are too short
  *   11  the blob is illegal; place: the lowest node at fault, else the lowest root
  *   12  a root below num_base is extension; place: the lowest such root. No node and no root is at fault by 11
+ *
+ * Calls on bytes have two more, 15 and 10, which stand before those of the call on words:
+ *
+ *   15  a stored form has under 32 bytes, or its distance or length is not as its counts say
+ *   10  a room for the blob's words, or the file, is too short
  *
  * Where no place is named it is 0.
  */
@@ -205,6 +210,63 @@ uint64_t cir_walk(uint32_t n, uint32_t base_count, uint32_t ext_count, uint32_t 
                   const uint64_t *challenges, size_t challenges_len, const uint64_t *alphas, size_t alphas_len,
                   uint64_t *base_evals, size_t base_evals_len, uint64_t *ext_evals, size_t ext_evals_len,
                   uint8_t *bytes, size_t bytes_len, uint64_t *slots, size_t slots_len);
+
+/* ---- bytes
+ *
+ * The same over bytes: a program's tables, a frame and evals as little-endian words, a blob in stored form A. That is its
+ * nodes (16 bytes each), base constants (8), extension constants (24) and roots (4), then eight words of four bytes: node,
+ * base constant, extension constant and root counts, num_base, base slots, extension slots, and the distance back to the
+ * first byte in words of four bytes. Constants are put below p in writing and in reading.
+ *
+ * Bytes hold as many words as are whole; bytes that are left over are neither read nor written. The words go into rooms
+ * that the caller lends beside; a room may be longer, and its words past those are not touched. A length is in bytes where
+ * bytes are lent, else in words.
+ */
+
+/* the file is read into the four rooms, then checked as cir_check_blob does. Else 15 or 10, with nothing written; or 2, 1,
+ * 11 or 12, with the blob in the rooms. */
+uint64_t cir_check_stored(size_t steps, size_t main_width, size_t aux_width, size_t challenge_count,
+                          size_t alpha_count, const uint8_t *file, size_t file_len, uint32_t *nodes,
+                          size_t nodes_len, uint64_t *base_consts, size_t base_consts_len, uint64_t *ext_consts,
+                          size_t ext_consts_len, uint32_t *roots, size_t roots_len, uint8_t *bytes,
+                          size_t bytes_len);
+
+/* the program's tables are unpacked into the four rooms of words and lowered into the four of the blob, which is written in
+ * form A at the front of file; its length in bytes into length. Bytes of file past it stay. Else 1, where a room of words
+ * is shorter than its table, with nothing written; or 8, 9, 1, 7 or 10 of lowering, 10 also where the file is too short;
+ * then the words stand in their rooms, and file and length are as they were.
+ *
+ * Lowering borrows a word a node in used, last_use, is_root and slot_of and two in free_slots, of any content; they are
+ * all 0 after 0 and 10, and not touched after another refusal. */
+uint64_t cir_lower_stored(size_t n, size_t base_count, size_t ext_count, size_t root_count, size_t num_base,
+                          const uint8_t *nodes, size_t nodes_len, const uint8_t *base_consts,
+                          size_t base_consts_len, const uint8_t *ext_consts, size_t ext_consts_len,
+                          const uint8_t *roots, size_t roots_len, uint32_t *node_words, size_t node_words_len,
+                          uint64_t *base_const_words, size_t base_const_words_len, uint64_t *ext_const_words,
+                          size_t ext_const_words_len, uint32_t *root_words, size_t root_words_len, uint32_t *used,
+                          size_t used_len, uint32_t *last_use, size_t last_use_len, uint32_t *is_root,
+                          size_t is_root_len, uint32_t *slot_of, size_t slot_of_len, uint32_t *free_slots,
+                          size_t free_slots_len, uint32_t *blob_nodes, size_t blob_nodes_len,
+                          uint64_t *blob_base_consts, size_t blob_base_consts_len, uint64_t *blob_ext_consts,
+                          size_t blob_ext_consts_len, uint32_t *blob_roots, size_t blob_roots_len, uint8_t *file,
+                          size_t file_len, uint64_t *length);
+
+/* the file is read into the four rooms, frame and evals are unpacked into the six of words, and the blob is walked as
+ * cir_walk does over those words; after 0 the evals are packed back, after a refusal they are as they were. Else 15 or 10;
+ * or 1, where a room of words is shorter than its bytes, with the blob in the rooms and nothing else written; or 2, 1, 14,
+ * 11 or 12. */
+uint64_t cir_walk_stored(size_t steps, size_t main_width, size_t aux_width, size_t challenge_count,
+                         size_t alpha_count, uint64_t o0, uint64_t o1, uint64_t o2, const uint8_t *file,
+                         size_t file_len, const uint8_t *main, size_t main_len, const uint8_t *aux, size_t aux_len,
+                         const uint8_t *challenges, size_t challenges_len, const uint8_t *alphas,
+                         size_t alphas_len, uint8_t *base_evals, size_t base_evals_len, uint8_t *ext_evals,
+                         size_t ext_evals_len, uint32_t *nodes, size_t nodes_len, uint64_t *base_consts,
+                         size_t base_consts_len, uint64_t *ext_consts, size_t ext_consts_len, uint32_t *roots,
+                         size_t roots_len, uint64_t *main_words, size_t main_words_len, uint64_t *aux_words,
+                         size_t aux_words_len, uint64_t *challenge_words, size_t challenge_words_len,
+                         uint64_t *alpha_words, size_t alpha_words_len, uint64_t *base_eval_words,
+                         size_t base_eval_words_len, uint64_t *ext_eval_words, size_t ext_eval_words_len,
+                         uint8_t *bytes, size_t bytes_len, uint64_t *slots, size_t slots_len);
 
 #ifdef __cplusplus
 }

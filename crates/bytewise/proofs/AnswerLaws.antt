@@ -5,10 +5,11 @@ use mathlib.Core.List.{List}
 use mathlib.Core.Path.{_≡_, refl, sym, ap, subst, _∙_}
 use Prim.Native.Nat.{ℕ, _/_, _≤_}
 use native.Mathlib.Omega.{arith}
-use lib.Dec.{ltb}
+use lib.Dec.{eqb, ltb}
 use lib.ListN.{length, take}
 use lib.Seq.{length-take-le}
 use borrow.Author.Tests.{ltb-false}
+use Rattle.laws.proofs.Cases.{by-test}
 use Rattle.laws.proofs.Tests.{or-left, or-right, clash}
 use Rattle.ir.specs.declared.program.Counts.{Counts}
 use Rattle.ir.specs.declared.frame.Shape.{Shape}
@@ -26,8 +27,8 @@ use Rattle.stored.specs.declared.read.ReadStored.{ReadStored}
 use Rattle.stored.specs.declared.read.ReadStored.the-variants as ReadStored
 use Rattle.stored.specs.declared.write.Stored.{Stored}
 use Rattle.stored.specs.declared.write.Stored.the-variants as Stored
-use Rattle.stored.specs.Form.{Tables}
-use Rattle.stored.specs.Answer.{put, ReadAnswer, WriteAnswer}
+use Rattle.stored.specs.Form.{Tables, countsIn, tablesIn}
+use Rattle.stored.specs.Answer.{put, readSaid, ReadAnswer, WriteAnswer}
 use Rattle.stored.proofs.FormLaws.{sets-long}
 use Rattle.bytewise.specs.Words.{whole, wordsIn}
 use Rattle.bytewise.specs.Lowering.{wordsOf, shortFor, Roomy, program, tablesOut, LowerFile, LowerStored}
@@ -36,13 +37,13 @@ use Rattle.bytewise.specs.Checking.{blobIn, CheckStored}
 
 -- ---- reading: one case or the other
 
-read-why : (r : ReadStored) {why why′ : Refusal} → r ≡ ReadStored.Refused why → r ≡ ReadStored.Refused why′ → why ≡ why′
+pub read-why : (r : ReadStored) {why why′ : Refusal} → r ≡ ReadStored.Refused why → r ≡ ReadStored.Refused why′ → why ≡ why′
 read-why r p q = cc
 
-read-counts : (r : ReadStored) {c c′ : BlobCounts} → r ≡ ReadStored.Read c → r ≡ ReadStored.Read c′ → c ≡ c′
+pub read-counts : (r : ReadStored) {c c′ : BlobCounts} → r ≡ ReadStored.Read c → r ≡ ReadStored.Read c′ → c ≡ c′
 read-counts r p q = cc
 
-read-both : (r : ReadStored) {why : Refusal} {c : BlobCounts} → r ≡ ReadStored.Refused why → r ≡ ReadStored.Read c → ⊥
+pub read-both : (r : ReadStored) {why : Refusal} {c : BlobCounts} → r ≡ ReadStored.Refused why → r ≡ ReadStored.Read c → ⊥
 read-both r p q = let z : _≡_ {A = ℕ} 0 1 = cc in omega arith
 
 -- ---- the check
@@ -175,3 +176,18 @@ module _ (c : Counts) (t rooms : Tables) {lists : Lists} {out : Output} {file : 
         unpacked = λ q. u;
         lowering = λ q. subst (λ (x : Tables). LowerFile (program c x) lists out file answer lists′ out′ file′) (fronts-are t rooms (roomy t rooms (sym e ∙ h)) u) f;
       }
+
+-- ---- rooms that a file was read into
+
+pub read-as-long : {file : List ℕ} {rooms rooms′ : Tables} {r : ReadStored} → ReadAnswer file rooms r rooms′ → AsLong rooms rooms′
+read-as-long {file} {rooms} {rooms′} a =
+    by-test (eqb (readSaid file rooms .number) 0) (AsLong rooms rooms′)
+    (λ t. as-long (tablesIn (countsIn file) file) rooms (a .wrote ∙ rw t))
+    λ t.
+    let e : rooms′ ≡ rooms = a .wrote ∙ rw t in
+    record {
+      nodes-as = ap (λ (x : Tables). length (x .nodes)) e;
+      bases-as = ap (λ (x : Tables). length (x .bases)) e;
+      exts-as = ap (λ (x : Tables). length (x .exts)) e;
+      roots-as = ap (λ (x : Tables). length (x .roots)) e;
+    }

@@ -1,4 +1,5 @@
 -- Calls on bytes.
 pub mod Checking
 pub mod Lowering
+pub mod Walking
 pub mod Words

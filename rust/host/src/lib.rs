@@ -5,9 +5,10 @@
 //!
 //! Memory is lent as slices, so a length always belongs to its pointer, and what a call writes overlaps nothing that
 //! it reads. A call that cannot do its work answers a [`Refusal`] and has changed nothing, but for the bytes that the
-//! calls on blobs borrow and the lists that lowering borrows.
+//! calls on blobs borrow, the lists that lowering borrows and the rooms that the calls on [`bytes`] do.
 
 pub mod blob;
+pub mod bytes;
 mod calls;
 pub mod ext;
 pub mod field;
@@ -17,8 +18,8 @@ pub mod program;
 /// The field's prime, 2^64 - 2^32 + 1.
 pub const P: u64 = 0xFFFF_FFFF_0000_0001;
 
-/// A call's answer other than "done". Whatever was lent is as it was, but for the bytes of [`blob`] and the lists of
-/// [`mod@lower`].
+/// A call's answer other than "done". Whatever was lent is as it was, but for the bytes of [`blob`], the lists of
+/// [`mod@lower`] and the rooms of [`bytes`].
 #[derive(Clone, Copy, Debug, PartialEq, Eq)]
 pub struct Refusal {
     /// The reason's number.
@@ -36,6 +37,7 @@ pub struct Refusal {
     /// | 12 | root below `num_base`, or the one asked for, is an extension value; place: the lowest such root |
     /// | 13 | leaf outside the frame; place: the lowest such node |
     /// | 14 | eval slices too short |
+    /// | 15 | stored form under 32 bytes, or its distance or length not as its counts say |
     pub number: u8,
     /// The node or root that the reason names, 0 where it names none.
     pub place: u64,
