@@ -92,14 +92,7 @@ fn lower_file(
         ends,
     ) {
         Lowering::Refused(why) => Stored::Refused(why),
-        Lowering::Lowered(k) => write_stored(
-            k,
-            &blob[..],
-            &narrow[..],
-            &wide[..],
-            &ends[..],
-            file,
-        ),
+        Lowering::Lowered(k) => write_stored(k, &blob[..], &narrow[..], &wide[..], &ends[..], file),
     }
 }
 
