@@ -1,5 +1,6 @@
 -- Lemmas of the calls.
 pub mod BlobSingle
+pub mod ByteCallLaws
 pub mod FieldCallLaws
 pub mod Single
 pub mod LowerCallLaws
