@@ -31,10 +31,13 @@
  *   11  the blob is illegal; place: the lowest node at fault, else the lowest root
  *   12  a root below num_base is extension; place: the lowest such root. No node and no root is at fault by 11
  *
- * Calls on bytes have two more, 15 and 10, which stand before those of the call on words:
+ * Calls on bytes test more, before the numbers of the call on words:
  *
  *   15  a stored form has under 32 bytes, or its distance or length is not as its counts say
- *   10  a room for the blob's words, or the file, is too short
+ *   10  a room for the words of a stored form is too short
+ *    1  a room for the words of other bytes is too short
+ *
+ * and, where a blob is written, 10 after all others: the file is too short.
  *
  * Where no place is named it is 0.
  */
