@@ -63,24 +63,28 @@ set-more to {mid} ws i v e p =
     rw (p, z) (sym (sets-append ws (v ∷ []) to 0))
 
 module _ (n : ℕ) (file : List ℕ) (at : ℕ) where
-  next : (i v : ℕ) → v ≡ leValue (take n (drop (at + n * i) file)) → v ≡ leValue (take n (drop (n * i) (drop at file)))
-  next i v e = e ∙ sym (ap (λ (l : List ℕ). leValue (take n l)) (drop-drop (n * i) at file))
-
-  -- the next word read
-  pub words-set : (to : List ℕ) {mid : List ℕ} (i v : ℕ) → v ≡ leValue (take n (drop (at + n * i) file)) → mid ≡ sets to 0 (words n i (drop at file)) → set mid i v ≡ sets to 0 (words n (i + 1) (drop at file))
-  words-set to i v e q =
-      set-more to (words n i (drop at file)) i v (words-long n i (drop at file)) q
-      ∙ ap (sets to 0) (sym (words-more n (drop at file) i ∙ ap (λ (x : ℕ). words n i (drop at file) ++ (x ∷ [])) (sym (next i v e))))
+  -- the next word
+  pub words-next : (i v : ℕ) → v ≡ leValue (take n (drop (at + n * i) file)) → words n (i + 1) (drop at file) ≡ words n i (drop at file) ++ (v ∷ [])
+  words-next i v e =
+      words-more n (drop at file) i
+      ∙ ap (λ (x : ℕ). words n i (drop at file) ++ (x ∷ [])) (ap (λ (l : List ℕ). leValue (take n l)) (drop-drop (n * i) at file) ∙ sym e)
 
   -- and put below p
+  pub constants-next : (i v : ℕ) → v ≡ leValue (take n (drop (at + n * i) file)) % p → belowP (words n (i + 1) (drop at file)) ≡ belowP (words n i (drop at file)) ++ (v ∷ [])
+  constants-next i v e =
+      ap belowP (words-next i (leValue (take n (drop (at + n * i) file))) refl)
+      ∙ map-append (λ w. w % p) (words n i (drop at file)) (leValue (take n (drop (at + n * i) file)) ∷ [])
+      ∙ ap (λ (x : ℕ). belowP (words n i (drop at file)) ++ (x ∷ [])) (sym e)
+
+  -- read into a room
+  pub words-set : (to : List ℕ) {mid : List ℕ} (i v : ℕ) → v ≡ leValue (take n (drop (at + n * i) file)) → mid ≡ sets to 0 (words n i (drop at file)) → set mid i v ≡ sets to 0 (words n (i + 1) (drop at file))
+  words-set to i v e q =
+      set-more to (words n i (drop at file)) i v (words-long n i (drop at file)) q ∙ ap (sets to 0) (sym (words-next i v e))
+
   pub constants-read : (to : List ℕ) {mid : List ℕ} (i v : ℕ) → v ≡ leValue (take n (drop (at + n * i) file)) % p → mid ≡ sets to 0 (belowP (words n i (drop at file))) → set mid i v ≡ sets to 0 (belowP (words n (i + 1) (drop at file)))
   constants-read to i v e q =
       set-more to (belowP (words n i (drop at file))) i v (length-map (words n i (drop at file)) (λ w. w % p) ∙ words-long n i (drop at file)) q
-      ∙ ap (sets to 0)
-      (sym
-      (ap belowP (words-more n (drop at file) i)
-      ∙ map-append (λ w. w % p) (words n i (drop at file)) (leValue (take n (drop (n * i) (drop at file))) ∷ [])
-      ∙ ap (λ (x : ℕ). belowP (words n i (drop at file)) ++ (x ∷ [])) (ap (λ (l : List ℕ). leValue (take n l) % p) (drop-drop (n * i) at file) ∙ sym e)))
+      ∙ ap (sets to 0) (sym (constants-next i v e))
 
 pub below-at : (ws : List ℕ) (i : ℕ) → getD (belowP ws) i 0 ≡ getD ws i 0 % p
 below-at ws i = List·getD-map (λ w. w % p) ws i 0

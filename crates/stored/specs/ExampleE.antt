@@ -6,6 +6,7 @@ use mathlib.Core.Path.{_≡_, refl}
 use Prim.Native.Nat.{ℕ}
 use lib.ListN.{length, drop}
 use Rattle.device.specs.declared.blob.BlobCounts.{BlobCounts}
+use Rattle.stored.specs.Listing.{decimal, listing, blobList}
 use Rattle.stored.specs.Form.{Tables, words, stored, countsIn, badFraming, tablesIn}
 
 pub counts : BlobCounts
@@ -73,3 +74,26 @@ file-counts = refl
 pub file-tables : tablesIn counts file ≡ tables
 unfolding counts tables file
 file-tables = refl
+
+-- ---- the listing of document 01, as bytes, a line to a row
+
+pub text : List ℕ
+text =
+    98 ∷ 108 ∷ 111 ∷ 98 ∷ 32 ∷ 55 ∷ 32 ∷ 50 ∷ 32 ∷ 48 ∷ 32 ∷ 50 ∷ 32 ∷ 49 ∷ 32 ∷ 50 ∷ 32 ∷ 49 ∷ 10
+    ∷ 110 ∷ 111 ∷ 100 ∷ 101 ∷ 32 ∷ 50 ∷ 32 ∷ 48 ∷ 32 ∷ 54 ∷ 53 ∷ 53 ∷ 51 ∷ 54 ∷ 32 ∷ 48 ∷ 10
+    ∷ 110 ∷ 111 ∷ 100 ∷ 101 ∷ 32 ∷ 50 ∷ 32 ∷ 48 ∷ 32 ∷ 54 ∷ 53 ∷ 55 ∷ 57 ∷ 50 ∷ 32 ∷ 49 ∷ 10
+    ∷ 110 ∷ 111 ∷ 100 ∷ 101 ∷ 32 ∷ 55 ∷ 32 ∷ 49 ∷ 32 ∷ 48 ∷ 32 ∷ 48 ∷ 10
+    ∷ 110 ∷ 111 ∷ 100 ∷ 101 ∷ 32 ∷ 55 ∷ 32 ∷ 48 ∷ 32 ∷ 49 ∷ 48 ∷ 55 ∷ 51 ∷ 55 ∷ 52 ∷ 49 ∷ 56 ∷ 50 ∷ 53 ∷ 32 ∷ 48 ∷ 10
+    ∷ 110 ∷ 111 ∷ 100 ∷ 101 ∷ 32 ∷ 50 ∷ 32 ∷ 50 ∷ 32 ∷ 48 ∷ 32 ∷ 50 ∷ 49 ∷ 52 ∷ 55 ∷ 52 ∷ 56 ∷ 51 ∷ 54 ∷ 52 ∷ 56 ∷ 10
+    ∷ 110 ∷ 111 ∷ 100 ∷ 101 ∷ 32 ∷ 56 ∷ 32 ∷ 53 ∷ 51 ∷ 54 ∷ 56 ∷ 55 ∷ 48 ∷ 57 ∷ 49 ∷ 50 ∷ 32 ∷ 50 ∷ 49 ∷ 52 ∷ 55 ∷ 52 ∷ 56 ∷ 51 ∷ 54 ∷ 52 ∷ 56 ∷ 32 ∷ 50 ∷ 49 ∷ 52 ∷ 55 ∷ 52 ∷ 56 ∷ 51 ∷ 54 ∷ 52 ∷ 56 ∷ 10
+    ∷ 110 ∷ 111 ∷ 100 ∷ 101 ∷ 32 ∷ 54 ∷ 32 ∷ 53 ∷ 51 ∷ 54 ∷ 56 ∷ 55 ∷ 48 ∷ 57 ∷ 49 ∷ 50 ∷ 32 ∷ 48 ∷ 32 ∷ 50 ∷ 49 ∷ 52 ∷ 55 ∷ 52 ∷ 56 ∷ 51 ∷ 54 ∷ 52 ∷ 56 ∷ 10
+    ∷ 99 ∷ 111 ∷ 110 ∷ 115 ∷ 116 ∷ 32 ∷ 48 ∷ 10
+    ∷ 99 ∷ 111 ∷ 110 ∷ 115 ∷ 116 ∷ 32 ∷ 49 ∷ 10
+    ∷ 114 ∷ 111 ∷ 111 ∷ 116 ∷ 32 ∷ 48 ∷ 10
+    ∷ 114 ∷ 111 ∷ 111 ∷ 116 ∷ 32 ∷ 50 ∷ 49 ∷ 52 ∷ 55 ∷ 52 ∷ 56 ∷ 51 ∷ 54 ∷ 52 ∷ 56 ∷ 10
+    ∷ 101 ∷ 110 ∷ 100 ∷ 10
+    ∷ []
+
+pub lists : blobList file ≡ text
+unfolding file text blobList listing decimal
+lists = refl

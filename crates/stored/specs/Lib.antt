@@ -2,3 +2,4 @@
 pub mod Answer
 pub mod ExampleE
 pub mod Form
+pub mod Listing

@@ -70,7 +70,7 @@ fn trailer_word(file: &[u8], k: usize) -> u32
     u32_at(file, file.len() - TRAILER_BYTES + 4 * k)
 }
 
-fn counts_in(file: &[u8]) -> BlobCounts
+pub fn counts_in(file: &[u8]) -> BlobCounts
     requires { ⌜ 32 ≤ length (now file) ⌝ }
     ensures { λ r. ⌜ r ≡ countsIn (now (file .entry)) ⌝ }
 {
@@ -95,7 +95,7 @@ fn is_misframed(words: usize, told: u32, len: usize) -> bool
     len != 4 * words + TRAILER_BYTES
 }
 
-fn bad_framing(file: &[u8]) -> bool
+pub fn bad_framing(file: &[u8]) -> bool
     ensures { λ r. ⌜ r ≡ badFraming (now (file .entry)) ⌝ }
 {
     if file.len() < TRAILER_BYTES {

@@ -1,10 +1,8 @@
 -- `read_constants` meets its contract.
 -- Assumes nothing.
-use Prim.Native.Nat.{ℕ, _%_}
+use Prim.Native.Nat.{ℕ, _%_, _≤_, _-_}
 use Rattle.field.specs.Base.{p}
-use mathlib.Core.Path.{_∙_, ap}
-use Prim.Native.Nat.{_≤_, _-_}
-use mathlib.Core.Path.{_≡_, refl}
+use mathlib.Core.Path.{_∙_, ap, _≡_, refl}
 use lib.Seq.{sets}
 use lib.ListN.{drop}
 use native.Mathlib.Omega.{arith}
