@@ -1,0 +1,6 @@
+pub mod Laws
+pub mod Ring
+pub mod Places
+pub mod Pushes
+pub mod Seeks
+pub mod PutLaws

@@ -1,0 +1,6 @@
+-- The builder's definitions.
+pub mod Words
+pub mod Table
+pub mod Hashing
+pub mod Puts
+pub mod Model

@@ -1,0 +1,2 @@
+// The builder over lent memory, after builder.rs.
+pub mod table;
