@@ -4,3 +4,5 @@ pub mod Places
 pub mod Pushes
 pub mod Seeks
 pub mod PutLaws
+pub mod AnswerLaws
+pub mod Single

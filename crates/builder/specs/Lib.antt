@@ -4,3 +4,5 @@ pub mod Table
 pub mod Hashing
 pub mod Puts
 pub mod Model
+pub mod Answers
+pub mod Calls

@@ -1,2 +1,3 @@
-// The builder over lent memory, after builder.rs.
+// The builder over lent memory, after builder.rs: nodes shared through hash places, and the calls.
+pub mod ir_builder;
 pub mod table;

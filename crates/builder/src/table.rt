@@ -17,7 +17,7 @@ pub struct Node {
     pub dim: u32,
 }
 
-fn wide(x: u32) -> usize
+pub fn wide(x: u32) -> usize
     ensures { λ r. ⌜ r ≡ x ⌝ }
 {
     x as usize

@@ -1,0 +1,82 @@
+-- The calls that touch nodes and places alone, over any lent words and any rule of where a lookup starts.
+-- Assumes nothing.
+use mathlib.Core.Bool.{Bool, true, false, cond}
+use mathlib.Core.List.{List, [], _∷_}
+use Prim.Native.Nat.{ℕ}
+use lib.Dec.{ltb}
+use lib.ListN.{length}
+use Rattle.ir.specs.Program.{joined}
+use Rattle.ir.specs.Refusals.{Row, row}
+use Rattle.ir.specs.Words.{Node, packed, var, rapChallenge, alphaPow, tableOffset, add, sub, mul, neg, embed}
+use Rattle.builder.specs.declared.ir_builder.Expr.{Expr}
+use Rattle.builder.specs.Words.{node}
+use Rattle.builder.specs.Hashing.{Start}
+use Rattle.builder.specs.Table.{Table}
+use Rattle.builder.specs.Answers.{shortB, strangerB, Built, made}
+
+-- ---- rows
+
+abbrev pub shortRow : Table → Row
+shortRow t = row (shortB (length (t .nodes)) (length (t .places)) (t .count)) 1
+
+-- a column, challenge or alpha index over 65,535
+abbrev pub indexRow : ℕ → Row
+indexRow i = row (ltb 65535 i) 2
+
+abbrev pub handleRow : Table → Expr → Row
+handleRow t e = row (strangerB (t .nodes) (t .count) e) 3
+
+-- ---- leaves
+
+unfoldable pub uniformOf : Start → ℕ → Table → ℕ → Built
+uniformOf start tag t i = made start (shortRow t ∷ indexRow i ∷ []) t (node tag i 0 1)
+
+abbrev pub challengeOf : Start → Table → ℕ → Built
+challengeOf start t i = uniformOf start rapChallenge t i
+
+abbrev pub alphaPowerOf : Start → Table → ℕ → Built
+alphaPowerOf start t i = uniformOf start alphaPow t i
+
+unfoldable pub tableOffsetOf : Start → Table → Built
+tableOffsetOf start t = made start (shortRow t ∷ []) t (node tableOffset 0 0 1)
+
+-- a cell of the main trace, which is base, or of the aux trace
+abbrev pub cellNode : Bool → ℕ → ℕ → Node
+cellNode main offset col =
+    let w = packed (record { main = main; offset = offset; row = 0; col = col }) in
+    node var (w .a) (w .b) (cond main 0 1)
+
+unfoldable pub cellOf : Start → Bool → Table → ℕ → ℕ → Built
+cellOf start main t offset col = made start (shortRow t ∷ indexRow col ∷ []) t (cellNode main offset col)
+
+abbrev pub mainCellOf : Start → Table → ℕ → ℕ → Built
+mainCellOf start t offset col = cellOf start true t offset col
+
+abbrev pub auxCellOf : Start → Table → ℕ → ℕ → Built
+auxCellOf start t offset col = cellOf start false t offset col
+
+-- ---- arithmetic
+
+unfoldable pub binaryOf : Start → ℕ → Table → Expr → Expr → Built
+binaryOf start tag t a b =
+    made start (shortRow t ∷ handleRow t a ∷ handleRow t b ∷ []) t (node tag (a .id) (b .id) (joined (a .dim) (b .dim)))
+
+abbrev pub addOf : Start → Table → Expr → Expr → Built
+addOf start t a b = binaryOf start add t a b
+
+abbrev pub subOf : Start → Table → Expr → Expr → Built
+subOf start t a b = binaryOf start sub t a b
+
+abbrev pub mulOf : Start → Table → Expr → Expr → Built
+mulOf start t a b = binaryOf start mul t a b
+
+unfoldable pub unaryOf : Start → ℕ → ℕ → Table → Expr → Built
+unaryOf start tag dim t a = made start (shortRow t ∷ handleRow t a ∷ []) t (node tag (a .id) 0 dim)
+
+-- it keeps its operand's dim
+abbrev pub negOf : Start → Table → Expr → Built
+negOf start t a = unaryOf start neg (a .dim) t a
+
+-- extension, also of an extension value
+abbrev pub embedOf : Start → Table → Expr → Built
+embedOf start t a = unaryOf start embed 1 t a

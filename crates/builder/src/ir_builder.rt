@@ -1,0 +1,296 @@
+// The calls that touch nodes and hash places alone: leaves and arithmetic. A builder is its counts; its tables are
+// lent to each call, and hold any words.
+ghost use mathlib.Core.Bool.{cond};
+ghost use mathlib.Core.List.{[]};
+ghost use mathlib.Core.Path.{_≡_};
+ghost use Prim.Native.Nat.{_*_, _≤_};
+ghost use lib.ListN.{length};
+ghost use Rattle.ir.specs.Program.{joined};
+ghost use Rattle.builder.specs.Words.{wordsOf};
+ghost use Rattle.builder.specs.Hashing.{startOf};
+ghost use Rattle.builder.specs.Table.{table};
+ghost use Rattle.builder.specs.Answers.{shortB, strangerB, answerOf, made, Gives};
+ghost use Rattle.builder.specs.Calls.{uniformOf, cellOf, binaryOf, unaryOf, challengeOf, alphaPowerOf, tableOffsetOf, mainCellOf, auxCellOf, addOf, subOf, mulOf, negOf, embedOf};
+use super::table::Node;
+use super::table::Put;
+use super::table::push;
+use super::table::wide;
+use ir::node::DIM_BASE;
+use ir::node::DIM_EXT;
+use ir::node::OP_ADD;
+use ir::node::OP_ALPHA_POW;
+use ir::node::OP_EMBED;
+use ir::node::OP_MUL;
+use ir::node::OP_NEG;
+use ir::node::OP_RAP_CHALLENGE;
+use ir::node::OP_SUB;
+use ir::node::OP_TABLE_OFFSET;
+use ir::node::OP_VAR;
+use ir::node::Var;
+use ir::node::pack_var;
+use ir::refusal::Refusal;
+
+// What the lent tables hold.
+pub struct IrBuilder {
+    pub nodes: usize,
+    pub bases: usize,
+    pub exts: usize,
+    pub roots: usize,
+}
+
+// A handle to a node: its id and its dim.
+pub struct Expr {
+    pub id: u32,
+    pub dim: u32,
+}
+
+// The node's handle and the builder after the call, or why there is none.
+pub enum Answer {
+    Made { expr: Expr, builder: IrBuilder },
+    Refused(Refusal),
+}
+
+// The highest column, challenge or alpha index.
+const MOST_INDEX: usize = 65535;
+
+// By division: the count is any number.
+pub fn short_nodes(nodes: usize, places: usize, n: usize) -> bool
+    ensures { λ r. ⌜ r ≡ shortB nodes places n ⌝ }
+{
+    if nodes / 4 < n {
+        return true;
+    }
+    places < n
+}
+
+// Whether a handle is no node's of this builder.
+pub fn is_foreign(nodes: &[u32], n: usize, e: Expr) -> bool
+    requires { ⌜ 4 * n ≤ length (now nodes) ⌝ }
+    ensures { λ r. ⌜ r ≡ strangerB (now (nodes .entry)) n e ⌝ }
+{
+    let i = wide(e.id);
+    if n <= i {
+        return true;
+    }
+    nodes[4 * i + 3] != e.dim
+}
+
+// Base exactly if both are.
+fn join(a: u32, b: u32) -> u32
+    ensures { λ r. ⌜ r ≡ joined a b ⌝ }
+{
+    if a != DIM_BASE {
+        return DIM_EXT;
+    }
+    if b != DIM_BASE {
+        return DIM_EXT;
+    }
+    DIM_BASE
+}
+
+fn cell_dim(main: bool) -> u32
+    ensures { λ r. ⌜ r ≡ cond main 0 1 ⌝ }
+{
+    if main { DIM_BASE } else { DIM_EXT }
+}
+
+// A push's answer as a call's.
+fn settle(p: Put, builder: IrBuilder, dim: u32) -> Answer
+    ensures { λ r. ⌜ r ≡ answerOf p builder dim ⌝ }
+{
+    match p {
+        Put::At { id, count } => Answer::Made {
+            expr: Expr { id, dim },
+            builder: IrBuilder {
+                nodes: count,
+                bases: builder.bases,
+                exts: builder.exts,
+                roots: builder.roots,
+            },
+        },
+        Put::Full => Answer::Refused(Refusal::NodesFull),
+    }
+}
+
+// How every call that makes a node ends.
+fn place(builder: IrBuilder, nodes: &mut [u32], places: &mut [u32], w: Node) -> Answer
+    requires { ⌜ 4 * builder .nodes ≤ length (now nodes) ⌝ }
+    ensures { λ r. ⌜ Gives (made startOf [] (table (now (nodes .entry)) (now (places .entry)) (builder .nodes)) (wordsOf w)) builder r (now (nodes .exit)) (now (places .exit)) ⌝ }
+{
+    let n = builder.nodes;
+    settle(push(nodes, n, places, w), builder, w.dim)
+}
+
+impl Expr {
+    pub fn dim(self) -> u32
+        ensures { λ r. ⌜ r ≡ self .dim ⌝ }
+    {
+        self.dim
+    }
+}
+
+impl IrBuilder {
+    // A challenge or an alpha power.
+    fn uniform(self, tag: u32, nodes: &mut [u32], places: &mut [u32], index: usize) -> Answer
+        ensures { λ r. ⌜ Gives (uniformOf startOf tag (table (now (nodes .entry)) (now (places .entry)) (self .nodes)) index) self r (now (nodes .exit)) (now (places .exit)) ⌝ }
+    {
+        if short_nodes(nodes.len(), places.len(), self.nodes) {
+            return Answer::Refused(Refusal::ShortMemory);
+        }
+        if MOST_INDEX < index {
+            return Answer::Refused(Refusal::OverLimit);
+        }
+        let w = Node {
+            tag,
+            x: index as u32,
+            y: 0,
+            dim: DIM_EXT,
+        };
+        place(self, nodes, places, w)
+    }
+
+    pub fn challenge(self, nodes: &mut [u32], places: &mut [u32], idx: usize) -> Answer
+        ensures { λ r. ⌜ Gives (challengeOf startOf (table (now (nodes .entry)) (now (places .entry)) (self .nodes)) idx) self r (now (nodes .exit)) (now (places .exit)) ⌝ }
+    {
+        self.uniform(OP_RAP_CHALLENGE, nodes, places, idx)
+    }
+
+    pub fn alpha_power(self, nodes: &mut [u32], places: &mut [u32], idx: usize) -> Answer
+        ensures { λ r. ⌜ Gives (alphaPowerOf startOf (table (now (nodes .entry)) (now (places .entry)) (self .nodes)) idx) self r (now (nodes .exit)) (now (places .exit)) ⌝ }
+    {
+        self.uniform(OP_ALPHA_POW, nodes, places, idx)
+    }
+
+    // The table offset L/N.
+    pub fn table_offset(self, nodes: &mut [u32], places: &mut [u32]) -> Answer
+        ensures { λ r. ⌜ Gives (tableOffsetOf startOf (table (now (nodes .entry)) (now (places .entry)) (self .nodes))) self r (now (nodes .exit)) (now (places .exit)) ⌝ }
+    {
+        if short_nodes(nodes.len(), places.len(), self.nodes) {
+            return Answer::Refused(Refusal::ShortMemory);
+        }
+        let w = Node {
+            tag: OP_TABLE_OFFSET,
+            x: 0,
+            y: 0,
+            dim: DIM_EXT,
+        };
+        place(self, nodes, places, w)
+    }
+
+    // A read of a trace cell at row 0.
+    fn cell(
+        self,
+        main: bool,
+        nodes: &mut [u32],
+        places: &mut [u32],
+        offset: u8,
+        col: usize,
+    ) -> Answer
+        ensures { λ r. ⌜ Gives (cellOf startOf main (table (now (nodes .entry)) (now (places .entry)) (self .nodes)) offset col) self r (now (nodes .exit)) (now (places .exit)) ⌝ }
+    {
+        if short_nodes(nodes.len(), places.len(), self.nodes) {
+            return Answer::Refused(Refusal::ShortMemory);
+        }
+        if MOST_INDEX < col {
+            return Answer::Refused(Refusal::OverLimit);
+        }
+        let packed = pack_var(Var {
+            main,
+            offset,
+            row: 0,
+            col: col as u16,
+        });
+        let w = Node {
+            tag: OP_VAR,
+            x: packed.a,
+            y: packed.b,
+            dim: cell_dim(main),
+        };
+        place(self, nodes, places, w)
+    }
+
+    pub fn main(self, nodes: &mut [u32], places: &mut [u32], offset: u8, col: usize) -> Answer
+        ensures { λ r. ⌜ Gives (mainCellOf startOf (table (now (nodes .entry)) (now (places .entry)) (self .nodes)) offset col) self r (now (nodes .exit)) (now (places .exit)) ⌝ }
+    {
+        self.cell(true, nodes, places, offset, col)
+    }
+
+    pub fn aux(self, nodes: &mut [u32], places: &mut [u32], offset: u8, col: usize) -> Answer
+        ensures { λ r. ⌜ Gives (auxCellOf startOf (table (now (nodes .entry)) (now (places .entry)) (self .nodes)) offset col) self r (now (nodes .exit)) (now (places .exit)) ⌝ }
+    {
+        self.cell(false, nodes, places, offset, col)
+    }
+
+    fn binary(self, tag: u32, nodes: &mut [u32], places: &mut [u32], a: Expr, b: Expr) -> Answer
+        ensures { λ r. ⌜ Gives (binaryOf startOf tag (table (now (nodes .entry)) (now (places .entry)) (self .nodes)) a b) self r (now (nodes .exit)) (now (places .exit)) ⌝ }
+    {
+        let n = self.nodes;
+        if short_nodes(nodes.len(), places.len(), n) {
+            return Answer::Refused(Refusal::ShortMemory);
+        }
+        if is_foreign(nodes, n, a) {
+            return Answer::Refused(Refusal::ForeignHandle);
+        }
+        if is_foreign(nodes, n, b) {
+            return Answer::Refused(Refusal::ForeignHandle);
+        }
+        let w = Node {
+            tag,
+            x: a.id,
+            y: b.id,
+            dim: join(a.dim, b.dim),
+        };
+        place(self, nodes, places, w)
+    }
+
+    pub fn add(self, nodes: &mut [u32], places: &mut [u32], a: Expr, b: Expr) -> Answer
+        ensures { λ r. ⌜ Gives (addOf startOf (table (now (nodes .entry)) (now (places .entry)) (self .nodes)) a b) self r (now (nodes .exit)) (now (places .exit)) ⌝ }
+    {
+        self.binary(OP_ADD, nodes, places, a, b)
+    }
+
+    pub fn sub(self, nodes: &mut [u32], places: &mut [u32], a: Expr, b: Expr) -> Answer
+        ensures { λ r. ⌜ Gives (subOf startOf (table (now (nodes .entry)) (now (places .entry)) (self .nodes)) a b) self r (now (nodes .exit)) (now (places .exit)) ⌝ }
+    {
+        self.binary(OP_SUB, nodes, places, a, b)
+    }
+
+    pub fn mul(self, nodes: &mut [u32], places: &mut [u32], a: Expr, b: Expr) -> Answer
+        ensures { λ r. ⌜ Gives (mulOf startOf (table (now (nodes .entry)) (now (places .entry)) (self .nodes)) a b) self r (now (nodes .exit)) (now (places .exit)) ⌝ }
+    {
+        self.binary(OP_MUL, nodes, places, a, b)
+    }
+
+    fn unary(self, tag: u32, dim: u32, nodes: &mut [u32], places: &mut [u32], a: Expr) -> Answer
+        ensures { λ r. ⌜ Gives (unaryOf startOf tag dim (table (now (nodes .entry)) (now (places .entry)) (self .nodes)) a) self r (now (nodes .exit)) (now (places .exit)) ⌝ }
+    {
+        let n = self.nodes;
+        if short_nodes(nodes.len(), places.len(), n) {
+            return Answer::Refused(Refusal::ShortMemory);
+        }
+        if is_foreign(nodes, n, a) {
+            return Answer::Refused(Refusal::ForeignHandle);
+        }
+        let w = Node {
+            tag,
+            x: a.id,
+            y: 0,
+            dim,
+        };
+        place(self, nodes, places, w)
+    }
+
+    // Keeps its operand's dim.
+    pub fn neg(self, nodes: &mut [u32], places: &mut [u32], a: Expr) -> Answer
+        ensures { λ r. ⌜ Gives (negOf startOf (table (now (nodes .entry)) (now (places .entry)) (self .nodes)) a) self r (now (nodes .exit)) (now (places .exit)) ⌝ }
+    {
+        self.unary(OP_NEG, a.dim, nodes, places, a)
+    }
+
+    // Extension, also of an extension value.
+    pub fn embed(self, nodes: &mut [u32], places: &mut [u32], a: Expr) -> Answer
+        ensures { λ r. ⌜ Gives (embedOf startOf (table (now (nodes .entry)) (now (places .entry)) (self .nodes)) a) self r (now (nodes .exit)) (now (places .exit)) ⌝ }
+    {
+        self.unary(OP_EMBED, DIM_EXT, nodes, places, a)
+    }
+}
