@@ -5,4 +5,5 @@ pub mod Pushes
 pub mod Seeks
 pub mod PutLaws
 pub mod AnswerLaws
+pub mod RootLaws
 pub mod Single

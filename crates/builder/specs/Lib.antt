@@ -6,3 +6,4 @@ pub mod Puts
 pub mod Model
 pub mod Answers
 pub mod Calls
+pub mod Roots

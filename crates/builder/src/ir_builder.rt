@@ -1,5 +1,5 @@
-// The calls that touch nodes and hash places alone: leaves and arithmetic. A builder is its counts; its tables are
-// lent to each call, and hold any words.
+// The builder's calls: leaves, arithmetic and roots. A builder is its counts; its tables are lent to each call, and
+// hold any words.
 ghost use mathlib.Core.Bool.{cond};
 ghost use mathlib.Core.List.{[]};
 ghost use mathlib.Core.Path.{_≡_};
@@ -11,6 +11,9 @@ ghost use Rattle.builder.specs.Hashing.{startOf};
 ghost use Rattle.builder.specs.Table.{table};
 ghost use Rattle.builder.specs.Answers.{shortB, strangerB, answerOf, made, Gives};
 ghost use Rattle.builder.specs.Calls.{uniformOf, cellOf, binaryOf, unaryOf, challengeOf, alphaPowerOf, tableOffsetOf, mainCellOf, auxCellOf, addOf, subOf, mulOf, negOf, embedOf};
+ghost use Rattle.builder.specs.Roots.{emitOf, EmitGives, finished};
+use super::roots::clear;
+use super::roots::greater;
 use super::table::Node;
 use super::table::Put;
 use super::table::push;
@@ -28,6 +31,7 @@ use ir::node::OP_TABLE_OFFSET;
 use ir::node::OP_VAR;
 use ir::node::Var;
 use ir::node::pack_var;
+use ir::program::Counts;
 use ir::refusal::Refusal;
 
 // What the lent tables hold.
@@ -47,6 +51,12 @@ pub struct Expr {
 // The node's handle and the builder after the call, or why there is none.
 pub enum Answer {
     Made { expr: Expr, builder: IrBuilder },
+    Refused(Refusal),
+}
+
+// The builder after a root was set, or why none was.
+pub enum Emitted {
+    Rooted(IrBuilder),
     Refused(Refusal),
 }
 
@@ -292,5 +302,53 @@ impl IrBuilder {
         ensures { λ r. ⌜ Gives (embedOf startOf (table (now (nodes .entry)) (now (places .entry)) (self .nodes)) a) self r (now (nodes .exit)) (now (places .exit)) ⌝ }
     {
         self.unary(OP_EMBED, DIM_EXT, nodes, places, a)
+    }
+
+    // The root of constraint c; constraints before it that have none get node 0. A second root replaces the first.
+    pub fn emit(self, nodes: &[u32], roots: &mut [u32], c: usize, e: Expr) -> Emitted
+        ensures { λ r. ⌜ EmitGives (emitOf (now (nodes .entry)) (self .nodes) (now (roots .entry)) (self .roots) c e) self r (now (roots .exit)) ⌝ }
+    {
+        let n = self.nodes;
+        let k = self.roots;
+        if nodes.len() / 4 < n {
+            return Emitted::Refused(Refusal::ShortMemory);
+        }
+        if roots.len() < k {
+            return Emitted::Refused(Refusal::ShortMemory);
+        }
+        if is_foreign(nodes, n, e) {
+            return Emitted::Refused(Refusal::ForeignHandle);
+        }
+        if roots.len() <= c {
+            return Emitted::Refused(Refusal::NoConstraint);
+        }
+        clear(roots, k, c);
+        roots[c] = e.id;
+        Emitted::Rooted(IrBuilder {
+            nodes: n,
+            bases: self.bases,
+            exts: self.exts,
+            roots: greater(k, c + 1),
+        })
+    }
+
+    // The program's counts, over the tables as they stand.
+    pub fn finish(self, num_base: usize) -> Counts
+        ensures { λ r. ⌜ r ≡ finished self «num_base» ⌝ }
+    {
+        Counts {
+            nodes: self.nodes,
+            bases: self.bases,
+            exts: self.exts,
+            roots: self.roots,
+            num_base,
+        }
+    }
+
+    // How many nodes there are.
+    pub fn len(self) -> usize
+        ensures { λ r. ⌜ r ≡ self .nodes ⌝ }
+    {
+        self.nodes
     }
 }

@@ -1,3 +1,4 @@
 // The builder over lent memory, after builder.rs: nodes shared through hash places, and the calls.
 pub mod ir_builder;
+pub mod roots;
 pub mod table;
