@@ -6,4 +6,5 @@ pub mod Seeks
 pub mod PutLaws
 pub mod AnswerLaws
 pub mod RootLaws
+pub mod ConstLaws
 pub mod Single

@@ -11,6 +11,7 @@ use Rattle.ir.proofs.Single.{refusalOf, known}
 use Rattle.builder.specs.Answers.{saidOfAnswer, builderAfter, Built, Gives}
 use Rattle.builder.specs.declared.ir_builder.Answer.{Answer}
 use Rattle.builder.specs.declared.ir_builder.Answer.the-variants.{Made, Refused}
+use Rattle.builder.specs.Consts.{Interned, Interns}
 use Rattle.builder.specs.Roots.{saidOfEmitted, builderEmitted, Rooting, EmitGives}
 use Rattle.builder.specs.declared.ir_builder.Emitted.{Emitted}
 use Rattle.builder.specs.declared.ir_builder.Emitted.the-variants.{Rooted}
@@ -49,3 +50,10 @@ emit-single o b r r′ rs rs′ f g =
     let e = f .said ∙ sym (g .said) in
     let q = f .builder ∙ sym (g .builder) in
     (sym (emitted-back b r) ∙ (λ i. emittedSaid (e i) (q i)) ∙ emitted-back b r′, f .roots ∙ sym (g .roots))
+
+-- ---- constants
+
+pub interns-single : (o : Interned) (b : IrBuilder) (r r′ : Answer) (ns ps bs ns′ ps′ bs′ : List ℕ) → Interns o b r ns ps bs → Interns o b r′ ns′ ps′ bs′
+    → (r ≡ r′) × (ns ≡ ns′) × (ps ≡ ps′) × (bs ≡ bs′)
+interns-single o b r r′ ns ps bs ns′ ps′ bs′ f g =
+    (answer-single b r r′ (f .said ∙ sym (g .said)) (f .builder ∙ sym (g .builder)), f .nodes ∙ sym (g .nodes), f .places ∙ sym (g .places), f .bases ∙ sym (g .bases))

@@ -7,3 +7,4 @@ pub mod Model
 pub mod Answers
 pub mod Calls
 pub mod Roots
+pub mod Consts

@@ -1,9 +1,9 @@
 // The builder's calls: leaves, arithmetic and roots. A builder is its counts; its tables are lent to each call, and
 // hold any words.
-ghost use mathlib.Core.Bool.{cond};
+ghost use mathlib.Core.Bool.{true, cond};
 ghost use mathlib.Core.List.{[]};
 ghost use mathlib.Core.Path.{_≡_};
-ghost use Prim.Native.Nat.{_*_, _≤_};
+ghost use Prim.Native.Nat.{_*_, _<_, _≤_};
 ghost use lib.ListN.{length};
 ghost use Rattle.ir.specs.Program.{joined};
 ghost use Rattle.builder.specs.Words.{wordsOf};
@@ -11,17 +11,23 @@ ghost use Rattle.builder.specs.Hashing.{startOf};
 ghost use Rattle.builder.specs.Table.{table};
 ghost use Rattle.builder.specs.Answers.{shortB, strangerB, answerOf, made, Gives};
 ghost use Rattle.builder.specs.Calls.{uniformOf, cellOf, binaryOf, unaryOf, challengeOf, alphaPowerOf, tableOffsetOf, mainCellOf, auxCellOf, addOf, subOf, mulOf, negOf, embedOf};
+ghost use Rattle.builder.specs.Consts.{constOf, Interns, Keeps};
 ghost use Rattle.builder.specs.Roots.{emitOf, EmitGives, finished};
+use super::constants::crowded;
+use super::constants::position;
 use super::roots::clear;
 use super::roots::greater;
 use super::table::Node;
 use super::table::Put;
+use super::table::least;
 use super::table::push;
 use super::table::wide;
+use field::goldilocks::Fp;
 use ir::node::DIM_BASE;
 use ir::node::DIM_EXT;
 use ir::node::OP_ADD;
 use ir::node::OP_ALPHA_POW;
+use ir::node::OP_CONST_BASE;
 use ir::node::OP_EMBED;
 use ir::node::OP_MUL;
 use ir::node::OP_NEG;
@@ -32,6 +38,7 @@ use ir::node::OP_VAR;
 use ir::node::Var;
 use ir::node::pack_var;
 use ir::program::Counts;
+use ir::program::MOST;
 use ir::refusal::Refusal;
 
 // What the lent tables hold.
@@ -129,6 +136,43 @@ fn place(builder: IrBuilder, nodes: &mut [u32], places: &mut [u32], w: Node) -> 
 {
     let n = builder.nodes;
     settle(push(nodes, n, places, w), builder, w.dim)
+}
+
+// A constant is written once its node was pushed, so that a refusal leaves none behind.
+fn keep(q: Put, builder: IrBuilder, bases: &mut [u64], new: bool, v: u64) -> Answer
+    requires { ⌜ (new ≡ true → builder .bases < length (now bases)) ⌝ }
+    ensures { λ r. ⌜ Keeps q builder (now (bases .entry)) new v r (now (bases .exit)) ⌝ }
+{
+    let m = builder.bases;
+    match q {
+        Put::At { id, count } => {
+            let expr = Expr { id, dim: DIM_BASE };
+            let exts = builder.exts;
+            let roots = builder.roots;
+            if new {
+                bases[m] = Fp::reduce(v);
+                return Answer::Made {
+                    expr,
+                    builder: IrBuilder {
+                        nodes: count,
+                        bases: m + 1,
+                        exts,
+                        roots,
+                    },
+                };
+            }
+            Answer::Made {
+                expr,
+                builder: IrBuilder {
+                    nodes: count,
+                    bases: m,
+                    exts,
+                    roots,
+                },
+            }
+        }
+        Put::Full => Answer::Refused(Refusal::NodesFull),
+    }
 }
 
 impl Expr {
@@ -350,5 +394,44 @@ impl IrBuilder {
         ensures { λ r. ⌜ r ≡ self .nodes ⌝ }
     {
         self.nodes
+    }
+
+    // A base constant, reduced and shared by value.
+    pub fn const_base(
+        self,
+        nodes: &mut [u32],
+        places: &mut [u32],
+        bases: &mut [u64],
+        v: u64,
+    ) -> Answer
+        ensures { λ r. ⌜ Interns (constOf startOf (table (now (nodes .entry)) (now (places .entry)) (self .nodes)) (now (bases .entry)) (self .bases) v) self r (now (nodes .exit)) (now (places .exit)) (now (bases .exit)) ⌝ }
+    {
+        let n = self.nodes;
+        let m = self.bases;
+        if short_nodes(nodes.len(), places.len(), n) {
+            return Answer::Refused(Refusal::ShortMemory);
+        }
+        if bases.len() < m {
+            return Answer::Refused(Refusal::ShortMemory);
+        }
+        let most = least(m, MOST);
+        let i = position(bases, most, v);
+        let new = most <= i;
+        if crowded(new, bases.len(), m) {
+            return Answer::Refused(Refusal::ConstantsFull);
+        }
+        let w = Node {
+            tag: OP_CONST_BASE,
+            x: i as u32,
+            y: 0,
+            dim: DIM_BASE,
+        };
+        keep(push(nodes, n, places, w), self, bases, new, v)
+    }
+
+    pub fn one(self, nodes: &mut [u32], places: &mut [u32], bases: &mut [u64]) -> Answer
+        ensures { λ r. ⌜ Interns (constOf startOf (table (now (nodes .entry)) (now (places .entry)) (self .nodes)) (now (bases .entry)) (self .bases) 1) self r (now (nodes .exit)) (now (places .exit)) (now (bases .exit)) ⌝ }
+    {
+        self.const_base(nodes, places, bases, 1)
     }
 }
