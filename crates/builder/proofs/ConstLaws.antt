@@ -2,13 +2,14 @@
 -- Assumes nothing.
 use mathlib.Core.Bool.{Bool, true, false, cond}
 use mathlib.Core.List.{List}
-use mathlib.Core.Path.{_≡_, refl, sym, ap, _∙_}
-use Prim.Native.Nat.{ℕ, zero, suc, _+_, _-_, _%_, _<_, _≤_, min}
+use mathlib.Core.Path.{_≡_, refl, sym, ap, _∙_, subst}
+use Prim.Native.Nat.{ℕ, zero, suc, _+_, _-_, _/_, _%_, _<_, _≤_, min}
+use native.Mathlib.Nat.{mod-mod}
 use native.Mathlib.Numerals.{add-one}
 use native.Mathlib.Omega.{arith}
 use lib.Dec.{eqb, leb}
 use lib.ListN.{length, getD, set}
-use borrow.Author.Tests.{leb-false, lt-ltb, le-ltb}
+use borrow.Author.Tests.{eq-eqb, ne-eqb, leb-false, lt-ltb, le-ltb}
 use Rattle.field.specs.Base.{p}
 use Rattle.ir.specs.declared.refusal.Refusal.the-variants.{ShortMemory, ConstantsFull, NodesFull}
 use Rattle.ir.specs.Program.{most}
@@ -17,7 +18,8 @@ use Rattle.builder.specs.Hashing.{startOf}
 use Rattle.builder.specs.Table.{Table, table}
 use Rattle.builder.specs.Puts.{Pushes}
 use Rattle.builder.specs.Answers.{shortB, pushed}
-use Rattle.builder.specs.Consts.{scan, positionOf, Interned, crowdedB, constOf, withBoth, Interns, keptAnswer, keptBases, Keeps}
+use Rattle.builder.specs.Consts.{scan, positionOf, Interned, crowdedB, constOf, withBoth, Interns, keptAnswer, keptBases, Keeps, empty, zeroOf, newOf}
+use Rattle.builder.specs.Roots.{cleared}
 use Rattle.builder.specs.declared.table.Put.{Put}
 use Rattle.builder.specs.declared.table.Put.the-variants.{At, Full}
 use Rattle.builder.specs.declared.ir_builder.Answer.{Answer}
@@ -153,3 +155,38 @@ module _ (nodes places bs : List ℕ) (c : IrBuilder) (v : ℕ) where
               let z = done-at (rw (ei, em) at e) u ns ps (rw (ei, em) at h) in
               let x : leb m i ≡ new = rw (ei, em) in
               rw (k .answer, k .bases, x) z
+
+-- ---- the fresh builder
+
+module _ (nodes places bs : List ℕ) where
+  abbrev oN : Interned
+  oN = newOf startOf nodes places bs
+
+  pub new-none : length bs ≡ 0 → Interns oN empty (Refused ConstantsFull) nodes places bs
+  unfolding newOf
+  new-none h = rw (eq-eqb _ _ h) (record { said = refl; builder = refl; nodes = refl; places = refl; bases = refl })
+
+  module _ (h : length bs ≡ 0 → ⊥) (r : ℕ) (er : r ≡ min (length nodes / 4) (min (length places) 536870911)) where
+    pub new-full : r ≡ 0 → Interns oN empty (Refused NodesFull) nodes places bs
+    unfolding newOf
+    new-full q = rw (ne-eqb _ _ h, eq-eqb _ _ (sym er ∙ q)) (record { said = refl; builder = refl; nodes = refl; places = refl; bases = refl })
+
+    pub new-done : (r ≡ 0 → ⊥) → (l : List ℕ) (a : Answer) (ns ps bs′ : List ℕ) → l ≡ cleared places 0 (length places - 0)
+        → Interns (constOf startOf (table nodes l 0) bs 0 0) empty a ns ps bs′ → Interns oN empty a ns ps bs′
+    unfolding newOf
+    new-done q l a ns ps bs′ e i =
+        let z : length places - 0 ≡ length places = omega arith in
+        let y = e ∙ ap (cleared places 0) z in
+        let j : Interns (zeroOf startOf nodes places bs) empty a ns ps bs′ = rw y at i in
+        rw (ne-eqb _ _ h, ne-eqb _ _ (λ x. q (er ∙ x)))
+        (record { said = j .said; builder = j .builder; nodes = j .nodes; places = j .places; bases = j .bases })
+
+-- ---- a constant by its remainder is the constant
+
+pub by-value : (t : Table) (bs : List ℕ) (m x n : ℕ) → x ≡ n % p → constOf startOf t bs m x ≡ constOf startOf t bs m n
+unfolding constOf positionOf
+by-value t bs m x n h = let e : x % p ≡ n % p = ap (λ k. k % p) h ∙ mod-mod n p in rw e
+
+pub signed-gives : (t : Table) (bs : List ℕ) (m x n : ℕ) (b : IrBuilder) (r : Answer) (ns ps bs′ : List ℕ) → x ≡ n % p
+    → Interns (constOf startOf t bs m x) b r ns ps bs′ → Interns (constOf startOf t bs m n) b r ns ps bs′
+signed-gives t bs m x n b r ns ps bs′ h i = subst (λ o. Interns o b r ns ps bs′) (by-value t bs m x n h) i

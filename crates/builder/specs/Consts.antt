@@ -89,3 +89,28 @@ keptBases Full bs m new v = bs
 pub record Keeps (q : Put) (b : IrBuilder) (bs : List ℕ) (new : Bool) (v : ℕ) (r : Answer) (bs′ : List ℕ) : Type 0 where
   pub answer : r ≡ keptAnswer q b new
   pub bases : bs′ ≡ keptBases q bs (b .bases) new v
+
+-- ---- the fresh builder
+
+abbrev pub empty : IrBuilder
+empty = record { nodes = 0; bases = 0; exts = 0; roots = 0 }
+
+-- no room for a constant or for a node
+abbrev pub newRows : Table → List ℕ → List Row
+newRows t bs = row (eqb (length bs) 0) 5 ∷ row (eqb (room t) 0) 4 ∷ []
+
+-- the constant 0 over cleared places: node 0
+abbrev pub zeroOf : Start → List ℕ → List ℕ → List ℕ → Interned
+zeroOf start nodes places bs = constOf start (table nodes (cleared places 0 (length places)) 0) bs 0 0
+
+unfoldable pub newOf : Start → List ℕ → List ℕ → List ℕ → Interned
+newOf start nodes places bs =
+    let t = table nodes places 0 in
+    let rows = newRows t bs in
+    let o = zeroOf start nodes places bs in
+    record {
+      said = first rows (o .said);
+      after = cond (anyHolds rows) t (o .after);
+      bases = cond (anyHolds rows) bs (o .bases);
+      count = cond (anyHolds rows) 0 (o .count);
+    }

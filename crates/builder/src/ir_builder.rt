@@ -5,13 +5,14 @@ ghost use mathlib.Core.List.{[]};
 ghost use mathlib.Core.Path.{_≡_};
 ghost use Prim.Native.Nat.{_*_, _<_, _≤_};
 ghost use lib.ListN.{length};
+ghost use Rattle.field.specs.Base.{signed};
 ghost use Rattle.ir.specs.Program.{joined};
 ghost use Rattle.builder.specs.Words.{wordsOf};
 ghost use Rattle.builder.specs.Hashing.{startOf};
 ghost use Rattle.builder.specs.Table.{table};
 ghost use Rattle.builder.specs.Answers.{shortB, strangerB, answerOf, made, Gives};
 ghost use Rattle.builder.specs.Calls.{uniformOf, cellOf, binaryOf, unaryOf, challengeOf, alphaPowerOf, tableOffsetOf, mainCellOf, auxCellOf, addOf, subOf, mulOf, negOf, embedOf};
-ghost use Rattle.builder.specs.Consts.{constOf, Interns, Keeps};
+ghost use Rattle.builder.specs.Consts.{constOf, Interns, Keeps, empty, newOf};
 ghost use Rattle.builder.specs.Roots.{emitOf, EmitGives, finished};
 use super::constants::crowded;
 use super::constants::position;
@@ -21,6 +22,7 @@ use super::table::Node;
 use super::table::Put;
 use super::table::least;
 use super::table::push;
+use super::table::room;
 use super::table::wide;
 use field::goldilocks::Fp;
 use ir::node::DIM_BASE;
@@ -184,6 +186,27 @@ impl Expr {
 }
 
 impl IrBuilder {
+    // A fresh builder: every lent place is free, and node 0 is the base constant 0.
+    pub fn new(nodes: &mut [u32], places: &mut [u32], bases: &mut [u64]) -> Answer
+        ensures { λ r. ⌜ Interns (newOf startOf (now (nodes .entry)) (now (places .entry)) (now (bases .entry))) empty r (now (nodes .exit)) (now (places .exit)) (now (bases .exit)) ⌝ }
+    {
+        let k = places.len();
+        if bases.len() == 0 {
+            return Answer::Refused(Refusal::ConstantsFull);
+        }
+        if room(nodes.len(), k) == 0 {
+            return Answer::Refused(Refusal::NodesFull);
+        }
+        clear(places, 0, k);
+        let none = IrBuilder {
+            nodes: 0,
+            bases: 0,
+            exts: 0,
+            roots: 0,
+        };
+        none.const_base(nodes, places, bases, 0)
+    }
+
     // A challenge or an alpha power.
     fn uniform(self, tag: u32, nodes: &mut [u32], places: &mut [u32], index: usize) -> Answer
         ensures { λ r. ⌜ Gives (uniformOf startOf tag (table (now (nodes .entry)) (now (places .entry)) (self .nodes)) index) self r (now (nodes .exit)) (now (places .exit)) ⌝ }
@@ -427,6 +450,20 @@ impl IrBuilder {
             dim: DIM_BASE,
         };
         keep(push(nodes, n, places, w), self, bases, new, v)
+    }
+
+    // A negative constant is p - |v|.
+    pub fn const_signed(
+        self,
+        nodes: &mut [u32],
+        places: &mut [u32],
+        bases: &mut [u64],
+        v: i64,
+    ) -> Answer
+        ensures { λ r. ⌜ Interns (constOf startOf (table (now (nodes .entry)) (now (places .entry)) (self .nodes)) (now (bases .entry)) (self .bases) (signed v)) self r (now (nodes .exit)) (now (places .exit)) (now (bases .exit)) ⌝ }
+    {
+        let x = Fp::from_i64(v);
+        self.const_base(nodes, places, bases, x)
     }
 
     pub fn one(self, nodes: &mut [u32], places: &mut [u32], bases: &mut [u64]) -> Answer
