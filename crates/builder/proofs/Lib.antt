@@ -6,5 +6,6 @@ pub mod Seeks
 pub mod PutLaws
 pub mod AnswerLaws
 pub mod RootLaws
+pub mod GapLaws
 pub mod ConstLaws
 pub mod Single

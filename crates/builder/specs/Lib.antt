@@ -7,4 +7,5 @@ pub mod Model
 pub mod Answers
 pub mod Calls
 pub mod Roots
+pub mod Gaps
 pub mod Consts
