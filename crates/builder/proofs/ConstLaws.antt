@@ -1,6 +1,6 @@
--- The scan of constants, and the ways out of `const_base`.
+-- The scan of constants, and the ways out of a call that makes one.
 -- Assumes nothing.
-use mathlib.Core.Bool.{Bool, true, false, cond}
+use mathlib.Core.Bool.{Bool, true, false, cond, false≢true}
 use mathlib.Core.List.{List}
 use mathlib.Core.Path.{_≡_, refl, sym, ap, _∙_, subst}
 use Prim.Native.Nat.{ℕ, zero, suc, _+_, _-_, _/_, _%_, _<_, _≤_, min}
@@ -13,17 +13,18 @@ use borrow.Author.Tests.{eq-eqb, ne-eqb, leb-false, lt-ltb, le-ltb}
 use Rattle.field.specs.Base.{p}
 use Rattle.ir.specs.declared.refusal.Refusal.the-variants.{ShortMemory, ConstantsFull, NodesFull}
 use Rattle.ir.specs.Program.{most}
+use Rattle.ir.specs.Words.{Node, constBase}
 use Rattle.builder.specs.Words.{node}
 use Rattle.builder.specs.Hashing.{startOf}
 use Rattle.builder.specs.Table.{Table, table}
 use Rattle.builder.specs.Puts.{Pushes}
-use Rattle.builder.specs.Answers.{shortB, pushed}
-use Rattle.builder.specs.Consts.{scan, positionOf, Interned, crowdedB, constOf, withBoth, Interns, keptAnswer, keptBases, Keeps, empty, zeroOf, newOf}
+use Rattle.builder.specs.Answers.{shortB, pushed, withNodes, answerOf}
+use Rattle.builder.specs.Consts.{scan, positionOf, Interned, crowdedB, internOf, constOf, withBases, withExts, Interns, keptB, empty, zeroOf, newOf}
 use Rattle.builder.specs.Roots.{cleared}
 use Rattle.builder.specs.declared.table.Put.{Put}
 use Rattle.builder.specs.declared.table.Put.the-variants.{At, Full}
 use Rattle.builder.specs.declared.ir_builder.Answer.{Answer}
-use Rattle.builder.specs.declared.ir_builder.Answer.the-variants.{Made, Refused}
+use Rattle.builder.specs.declared.ir_builder.Answer.the-variants.{Refused}
 use Rattle.builder.specs.declared.ir_builder.IrBuilder.{IrBuilder}
 use Rattle.builder.proofs.Laws.{cond-case}
 
@@ -46,115 +47,119 @@ module _ (test : ℕ → Bool) where
   unfolding scan
   scan-end m i h = let q : m - i ≡ 0 = omega arith in rw q
 
-pub position-le : (bs : List ℕ) (m v : ℕ) → positionOf bs m v ≤ m
-unfolding positionOf
-position-le bs m v = omega (arith, scan-le (λ j. eqb (getD bs j 0 % p) (v % p)) m 0)
+pub scan-most : (test : ℕ → Bool) (m : ℕ) → scan test m 0 ≤ m
+scan-most test m = omega (arith, scan-le test m 0)
 
 -- the first i of m constants have another value
-pub record Scanning (bs : List ℕ) (m v i : ℕ) : Type 0 where
+pub record Scanning (test : ℕ → Bool) (m i : ℕ) : Type 0 where
   pub few : i ≤ m
-  pub on : positionOf bs m v ≡ scan (λ j. eqb (getD bs j 0 % p) (v % p)) (m - i) i
+  pub on : scan test m 0 ≡ scan test (m - i) i
 
-module _ (bs : List ℕ) (m v : ℕ) where
-  abbrev test : ℕ → Bool
-  test j = eqb (getD bs j 0 % p) (v % p)
-
-  pub scanning-start : Scanning bs m v 0
-  unfolding positionOf
+module _ (test : ℕ → Bool) (m : ℕ) where
+  pub scanning-start : Scanning test m 0
   scanning-start = let q : m ≡ m - 0 = omega arith in record { few = omega arith; on = ap (λ n. scan test n 0) q }
 
-  module _ (i : ℕ) (s : Scanning bs m v i) where
-    pub scanning-more : (b : Bool) → i < m → b ≡ test i → b ≡ false → Scanning bs m v (i + 1)
+  module _ (i : ℕ) (s : Scanning test m i) where
+    pub scanning-more : (b : Bool) → i < m → b ≡ test i → b ≡ false → Scanning test m (i + 1)
     scanning-more b h e n = record { few = omega arith; on = s .on ∙ scan-on test m i h (sym e ∙ n) }
 
-    pub scanning-here : (b : Bool) → i < m → b ≡ test i → b ≡ true → i ≡ positionOf bs m v
+    pub scanning-here : (b : Bool) → i < m → b ≡ test i → b ≡ true → i ≡ scan test m 0
     scanning-here b h e n = sym (s .on ∙ scan-here test m i h (sym e ∙ n))
 
-    pub scanning-end : m ≤ i → i ≡ positionOf bs m v
+    pub scanning-end : m ≤ i → i ≡ scan test m 0
     scanning-end h = sym (s .on ∙ scan-end test m i h)
 
--- ---- const_base
+-- ---- a constant of either class
 
-module _ (o : Put) (c : IrBuilder) (bs : List ℕ) (new : Bool) (v : ℕ) where
-  module _ (id count : ℕ) (e : o ≡ At id count) where
-    pub keeps-new : (x : ℕ) → x ≡ v % p → new ≡ true → Keeps o c bs new v (Made (record { id = id; dim = 0 }) (withBoth c count (c .bases + 1))) (set bs (c .bases) x)
-    keeps-new x h q = rw (e, q, h) (record { answer = refl; bases = refl })
+-- room for a new constant
+pub record Space (fits m : ℕ) : Type 0 where
+  pub few : m < most
+  pub fit : m < fits
 
-    pub keeps-old : new ≡ false → Keeps o c bs new v (Made (record { id = id; dim = 0 }) (withBoth c count (c .bases))) bs
-    keeps-old q = rw (e, q) (record { answer = refl; bases = refl })
+pub new-space : (new : Bool) (fits m : ℕ) (f : Bool) → f ≡ crowdedB new fits m → f ≡ false → new ≡ true → Space fits m
+unfolding crowdedB
+new-space new fits m f e q n =
+    let h = sym e ∙ q in
+    let l = leb-false (min fits most) m (rw n at h) in
+    record { few = omega arith; fit = omega arith }
 
-  pub keeps-full : o ≡ Full → Keeps o c bs new v (Refused NodesFull) bs
-  keeps-full e = rw e (record { answer = refl; bases = refl })
+pub kept-new : (u : Put) (new : Bool) → keptB u new ≡ true → new ≡ true
+kept-new (At id count) new e = e
+kept-new Full new e = absurd (false≢true e)
 
-module _ (nodes places bs : List ℕ) (c : IrBuilder) (v : ℕ) where
+-- the counts of a builder, where `counts` sets those of nodes and of the constants
+pub record Counting (counts : IrBuilder → ℕ → ℕ → IrBuilder) (c : IrBuilder) (m : ℕ) : Type 0 where
+  pub same : c ≡ counts c (c .nodes) m
+  pub over : (n k g : ℕ) → withNodes (counts c n g) k ≡ counts c k g
+
+pub bases-counting : (c : IrBuilder) → Counting withBases c (c .bases)
+bases-counting c = record { same = refl; over = λ n k g. refl }
+
+pub exts-counting : (c : IrBuilder) → Counting withExts c (c .exts)
+exts-counting c = record { same = refl; over = λ n k g. refl }
+
+module _ (counts : IrBuilder → ℕ → ℕ → IrBuilder) (tag dim : ℕ) (nodes places words written : List ℕ) (c : IrBuilder) (fits m i : ℕ) (k : Counting counts c m) where
   abbrev t : Table
   t = table nodes places (c .nodes)
 
   abbrev o : Interned
-  o = constOf startOf t bs (c .bases) v
+  o = internOf startOf t tag dim fits m i words written
 
   module _ (s : Bool) (es : s ≡ shortB (length nodes) (length places) (c .nodes)) where
-    pub const-short : s ≡ true → Interns o c (Refused ShortMemory) nodes places bs
-    unfolding constOf
-    const-short q = rw (sym es ∙ q) (record { said = refl; builder = refl; nodes = refl; places = refl; bases = refl })
+    pub const-short : s ≡ true → Interns counts o c (Refused ShortMemory) nodes places words
+    unfolding internOf
+    const-short q = rw (sym es ∙ q) (record { said = refl; builder = k .same; nodes = refl; places = refl; consts = refl })
 
     module _ (fs : s ≡ false) where
-      pub const-few : length bs < c .bases → Interns o c (Refused ShortMemory) nodes places bs
-      unfolding constOf
-      const-few h = rw (sym es ∙ fs, lt-ltb _ _ h) (record { said = refl; builder = refl; nodes = refl; places = refl; bases = refl })
+      pub const-few : fits < m → Interns counts o c (Refused ShortMemory) nodes places words
+      unfolding internOf
+      const-few h = rw (sym es ∙ fs, lt-ltb _ _ h) (record { said = refl; builder = k .same; nodes = refl; places = refl; consts = refl })
 
-      module _ (long : c .bases ≤ length bs) where
-        abbrev lim : ℕ
-        lim = min (c .bases) most
-
-        abbrev index : ℕ
-        index = positionOf bs lim v
-
+      module _ (long : m ≤ fits) (l : ℕ) (el : l ≡ min m most) (j : ℕ) (ej : j ≡ i) (f : Bool) (ef : f ≡ crowdedB (leb l j) fits m) where
         abbrev new : Bool
-        new = leb lim index
+        new = leb (min m most) i
 
-        crowded-at : crowdedB new (length bs) (c .bases) ≡ true → Interns o c (Refused ConstantsFull) nodes places bs
-        unfolding constOf
-        crowded-at e = rw (sym es ∙ fs, le-ltb _ _ long, e) (record { said = refl; builder = refl; nodes = refl; places = refl; bases = refl })
+        same-new : leb l j ≡ new
+        same-new = rw (el, ej)
 
-        done-at : crowdedB new (length bs) (c .bases) ≡ false → (u : Put) (ns ps : List ℕ) → Pushes (pushed startOf t (node 0 index 0 0)) (c .nodes) u ns ps
-            → Interns o c (keptAnswer u c new) ns ps (keptBases u bs (c .bases) new v)
-        unfolding constOf
-        done-at e (At id count) ns ps h =
-            rw (sym es ∙ fs, le-ltb _ _ long, e, sym (h .id))
-            (record {
-              said = refl;
-              builder = ap (λ n. withBoth c n (cond new (c .bases + 1) (c .bases))) (h .count);
-              nodes = h .nodes;
-              places = h .places;
-              bases = refl;
-            })
-        done-at e Full ns ps h =
-            rw (sym es ∙ fs, le-ltb _ _ long, e, sym (h .id))
-            (record {
-              said = refl;
-              builder = ap (λ n. withBoth c n (c .bases)) (h .count);
-              nodes = h .nodes;
-              places = h .places;
-              bases = refl;
-            })
+        same-crowded : crowdedB new fits m ≡ f
+        same-crowded = ap (λ n. crowdedB n fits m) (sym same-new) ∙ sym ef
 
-        module _ (m : ℕ) (em : m ≡ min (c .bases) most) (i : ℕ) (ei : i ≡ positionOf bs m v) (f : Bool) (ef : f ≡ crowdedB (leb m i) (length bs) (c .bases)) where
-          pub const-crowded : f ≡ true → Interns o c (Refused ConstantsFull) nodes places bs
-          const-crowded q = let e = sym ef ∙ q in crowded-at (rw (ei, em) at e)
+        pub const-crowded : f ≡ true → Interns counts o c (Refused ConstantsFull) nodes places words
+        unfolding internOf
+        const-crowded q =
+            rw (sym es ∙ fs, le-ltb _ _ long, same-crowded ∙ q) (record { said = refl; builder = k .same; nodes = refl; places = refl; consts = refl })
 
-          -- the constant's table has room for a new one
-          pub const-room : f ≡ false → leb m i ≡ true → c .bases < length bs
-          unfolding crowdedB
-          const-room q n = let e = sym ef ∙ q in omega (arith, leb-false (min (length bs) most) (c .bases) (rw n at e))
+        module _ (q : f ≡ false) (ns ps : List ℕ) where
+          abbrev Told : Put → Type 0
+          Told u = Interns counts o c (answerOf u (counts c (c .nodes) (cond new (m + 1) m)) dim) ns ps (cond (keptB u new) written words)
 
-          pub const-done : f ≡ false → (u : Put) (r : Answer) (ns ps bs′ : List ℕ) → Pushes (pushed startOf t (node 0 i 0 0)) (c .nodes) u ns ps → Keeps u c bs (leb m i) v r bs′
-              → Interns o c r ns ps bs′
-          const-done q u r ns ps bs′ h k =
-              let e = sym ef ∙ q in
-              let z = done-at (rw (ei, em) at e) u ns ps (rw (ei, em) at h) in
-              let x : leb m i ≡ new = rw (ei, em) in
-              rw (k .answer, k .bases, x) z
+          settled : (u : Put) → Pushes (pushed startOf t (node tag i 0 dim)) (c .nodes) u ns ps → Told u
+          unfolding internOf
+          settled (At id count) h =
+              rw (sym es ∙ fs, le-ltb _ _ long, same-crowded ∙ q, sym (h .id))
+              (record {
+                said = refl;
+                builder = k .over _ _ _ ∙ ap (λ n. counts c n (cond new (m + 1) m)) (h .count);
+                nodes = h .nodes;
+                places = h .places;
+                consts = refl;
+              })
+          settled Full h =
+              rw (sym es ∙ fs, le-ltb _ _ long, same-crowded ∙ q, sym (h .id))
+              (record {
+                said = refl;
+                builder = k .same ∙ ap (λ n. counts c n m) (h .count);
+                nodes = h .nodes;
+                places = h .places;
+                consts = refl;
+              })
+
+          pub const-done : (g : ℕ) (u : Put) (w : Node) (z : Bool) (b : IrBuilder) (r : Answer) (words′ : List ℕ) → g ≡ cond (leb l j) (m + 1) m → w ≡ node tag j 0 dim
+              → Pushes (pushed startOf t w) (c .nodes) u ns ps → z ≡ keptB u (leb l j) → b ≡ counts c (c .nodes) g → r ≡ answerOf u b dim
+              → words′ ≡ cond z written words → Interns counts o c r ns ps words′
+          const-done g u w z b r words′ eg ew h ez eb er e =
+              rw (er, eb, e, ez, eg, same-new) (settled u (subst (λ x. Pushes (pushed startOf t x) (c .nodes) u ns ps) (ew ∙ ap (λ x. node tag x 0 dim) ej) h))
 
 -- ---- the fresh builder
 
@@ -162,31 +167,34 @@ module _ (nodes places bs : List ℕ) where
   abbrev oN : Interned
   oN = newOf startOf nodes places bs
 
-  pub new-none : length bs ≡ 0 → Interns oN empty (Refused ConstantsFull) nodes places bs
+  pub new-none : length bs ≡ 0 → Interns withBases oN empty (Refused ConstantsFull) nodes places bs
   unfolding newOf
-  new-none h = rw (eq-eqb _ _ h) (record { said = refl; builder = refl; nodes = refl; places = refl; bases = refl })
+  new-none h = rw (eq-eqb _ _ h) (record { said = refl; builder = refl; nodes = refl; places = refl; consts = refl })
 
   module _ (h : length bs ≡ 0 → ⊥) (r : ℕ) (er : r ≡ min (length nodes / 4) (min (length places) 536870911)) where
-    pub new-full : r ≡ 0 → Interns oN empty (Refused NodesFull) nodes places bs
+    pub new-full : r ≡ 0 → Interns withBases oN empty (Refused NodesFull) nodes places bs
     unfolding newOf
-    new-full q = rw (ne-eqb _ _ h, eq-eqb _ _ (sym er ∙ q)) (record { said = refl; builder = refl; nodes = refl; places = refl; bases = refl })
+    new-full q = rw (ne-eqb _ _ h, eq-eqb _ _ (sym er ∙ q)) (record { said = refl; builder = refl; nodes = refl; places = refl; consts = refl })
 
     pub new-done : (r ≡ 0 → ⊥) → (l : List ℕ) (a : Answer) (ns ps bs′ : List ℕ) → l ≡ cleared places 0 (length places - 0)
-        → Interns (constOf startOf (table nodes l 0) bs 0 0) empty a ns ps bs′ → Interns oN empty a ns ps bs′
+        → Interns withBases (constOf startOf (table nodes l 0) bs 0 0) empty a ns ps bs′ → Interns withBases oN empty a ns ps bs′
     unfolding newOf
     new-done q l a ns ps bs′ e i =
         let z : length places - 0 ≡ length places = omega arith in
         let y = e ∙ ap (cleared places 0) z in
-        let j : Interns (zeroOf startOf nodes places bs) empty a ns ps bs′ = rw y at i in
+        let j : Interns withBases (zeroOf startOf nodes places bs) empty a ns ps bs′ = rw y at i in
         rw (ne-eqb _ _ h, ne-eqb _ _ (λ x. q (er ∙ x)))
-        (record { said = j .said; builder = j .builder; nodes = j .nodes; places = j .places; bases = j .bases })
+        (record { said = j .said; builder = j .builder; nodes = j .nodes; places = j .places; consts = j .consts })
 
 -- ---- a constant by its remainder is the constant
 
 pub by-value : (t : Table) (bs : List ℕ) (m x n : ℕ) → x ≡ n % p → constOf startOf t bs m x ≡ constOf startOf t bs m n
-unfolding constOf positionOf
-by-value t bs m x n h = let e : x % p ≡ n % p = ap (λ k. k % p) h ∙ mod-mod n p in rw e
+unfolding positionOf
+by-value t bs m x n h =
+    let e : x % p ≡ n % p = ap (λ k. k % p) h ∙ mod-mod n p in
+    let q : positionOf bs (min m most) x ≡ positionOf bs (min m most) n = ap (λ k. scan (λ j. eqb (getD bs j 0 % p) k) (min m most) 0) e in
+    λ i. internOf startOf t constBase 0 (length bs) m (q i) bs (set bs m (e i))
 
 pub signed-gives : (t : Table) (bs : List ℕ) (m x n : ℕ) (b : IrBuilder) (r : Answer) (ns ps bs′ : List ℕ) → x ≡ n % p
-    → Interns (constOf startOf t bs m x) b r ns ps bs′ → Interns (constOf startOf t bs m n) b r ns ps bs′
-signed-gives t bs m x n b r ns ps bs′ h i = subst (λ o. Interns o b r ns ps bs′) (by-value t bs m x n h) i
+    → Interns withBases (constOf startOf t bs m x) b r ns ps bs′ → Interns withBases (constOf startOf t bs m n) b r ns ps bs′
+signed-gives t bs m x n b r ns ps bs′ h i = subst (λ o. Interns withBases o b r ns ps bs′) (by-value t bs m x n h) i

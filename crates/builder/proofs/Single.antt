@@ -57,10 +57,10 @@ emit-single o b r r′ rs rs′ f g =
 
 -- ---- constants
 
-pub interns-single : (o : Interned) (b : IrBuilder) (r r′ : Answer) (ns ps bs ns′ ps′ bs′ : List ℕ) → Interns o b r ns ps bs → Interns o b r′ ns′ ps′ bs′
+pub interns-single : (counts : IrBuilder → ℕ → ℕ → IrBuilder) (o : Interned) (b : IrBuilder) (r r′ : Answer) (ns ps bs ns′ ps′ bs′ : List ℕ) → Interns counts o b r ns ps bs → Interns counts o b r′ ns′ ps′ bs′
     → (r ≡ r′) × (ns ≡ ns′) × (ps ≡ ps′) × (bs ≡ bs′)
-interns-single o b r r′ ns ps bs ns′ ps′ bs′ f g =
-    (answer-single b r r′ (f .said ∙ sym (g .said)) (f .builder ∙ sym (g .builder)), f .nodes ∙ sym (g .nodes), f .places ∙ sym (g .places), f .bases ∙ sym (g .bases))
+interns-single counts o b r r′ ns ps bs ns′ ps′ bs′ f g =
+    (answer-single b r r′ (f .said ∙ sym (g .said)) (f .builder ∙ sym (g .builder)), f .nodes ∙ sym (g .nodes), f .places ∙ sym (g .places), f .consts ∙ sym (g .consts))
 
 -- ---- the gap report
 

@@ -1,19 +1,17 @@
--- Base constants by value, and the fresh builder, over any lent words.
+-- Constants by value, base and extension alike, and the fresh builder, over any lent words.
 -- Assumes nothing.
-use mathlib.Core.Bool.{Bool, cond, _&&_, _||_}
+use mathlib.Core.Bool.{Bool, false, cond, _&&_, _||_}
 use mathlib.Core.List.{List, [], _∷_, _++_}
 use mathlib.Core.Path.{_≡_}
-use Prim.Native.Nat.{ℕ, zero, suc, _+_, _%_, min}
+use Prim.Native.Nat.{ℕ, zero, suc, _+_, _*_, _/_, _%_, min}
 use lib.Dec.{eqb, leb, ltb}
 use lib.ListN.{length, getD, set}
 use Rattle.laws.specs.Options.{missing}
 use Rattle.field.specs.Base.{p}
-use Rattle.ir.specs.declared.refusal.Refusal.the-variants.{NodesFull}
 use Rattle.ir.specs.Program.{most}
 use Rattle.ir.specs.Refusals.{Said, Row, row, first, anyHolds, gives, foundAt}
-use Rattle.ir.specs.Words.{constBase}
+use Rattle.ir.specs.Words.{constBase, constExt}
 use Rattle.builder.specs.declared.ir_builder.Answer.{Answer}
-use Rattle.builder.specs.declared.ir_builder.Answer.the-variants.{Made, Refused}
 use Rattle.builder.specs.declared.ir_builder.IrBuilder.{IrBuilder}
 use Rattle.builder.specs.declared.table.Put.{Put}
 use Rattle.builder.specs.declared.table.Put.the-variants.{At, Full}
@@ -28,67 +26,93 @@ unfoldable pub scan : (ℕ → Bool) → ℕ → ℕ → ℕ
 scan test zero i = i
 scan test (suc left) i = let r = scan test left (suc i) in cond (test i) i r
 
+-- whether constant j of one word has the value of v
+abbrev pub sameBase : List ℕ → ℕ → ℕ → Bool
+sameBase bs v j = eqb (getD bs j 0 % p) (v % p)
+
+-- whether the word at `at` has the value of limb k of v
+abbrev pub sameLimb : List ℕ → ℕ → List ℕ → ℕ → Bool
+sameLimb xs at v k = eqb (getD xs at 0 % p) (getD v k 0 % p)
+
+-- whether constant j of three words has the value of v
+abbrev pub sameExt : List ℕ → List ℕ → ℕ → Bool
+sameExt xs v j = sameLimb xs (3 * j) v 0 && (sameLimb xs (3 * j + 1) v 1 && sameLimb xs (3 * j + 2) v 2)
+
 -- the first of m constants with the value of v, else m
 unfoldable pub positionOf : List ℕ → ℕ → ℕ → ℕ
-positionOf bs m v = scan (λ j. eqb (getD bs j 0 % p) (v % p)) m 0
+positionOf bs m v = scan (sameBase bs v) m 0
 
--- 5: a new constant, and its table is full
+unfoldable pub extPositionOf : List ℕ → ℕ → List ℕ → ℕ
+extPositionOf xs m v = scan (sameExt xs v) m 0
+
+-- the words with constant m written, put below p
+abbrev pub withBase : List ℕ → ℕ → ℕ → List ℕ
+withBase bs m v = set bs m (v % p)
+
+abbrev pub withExt : List ℕ → ℕ → List ℕ → List ℕ
+withExt xs m v = set (set (set xs (3 * m) (getD v 0 0 % p)) (3 * m + 1) (getD v 1 0 % p)) (3 * m + 2) (getD v 2 0 % p)
+
+-- 5: a new constant, and its table is full, which holds `fits` constants
 unfoldable pub crowdedB : Bool → ℕ → ℕ → Bool
-crowdedB new len m = new && leb (min len most) m
+crowdedB new fits m = new && leb (min fits most) m
 
 -- what a call that makes a constant says, and the tables after it
 pub record Interned : Type 0 where
   pub said : Said
   pub after : Table
-  pub bases : List ℕ
+  pub consts : List ℕ
   pub count : ℕ
 
 -- 1 and 5
-abbrev pub constRows : Table → List ℕ → ℕ → Bool → List Row
-constRows t bs m new =
-    row (shortB (length (t .nodes)) (length (t .places)) (t .count) || ltb (length bs) m) 1
-    ∷ row (crowdedB new (length bs) m) 5
+abbrev pub constRows : Table → ℕ → ℕ → Bool → List Row
+constRows t fits m new =
+    row (shortB (length (t .nodes)) (length (t .places)) (t .count) || ltb fits m) 1
+    ∷ row (crowdedB new fits m) 5
     ∷ []
 
--- a new constant is written only where its node is
-unfoldable pub constOf : Start → Table → List ℕ → ℕ → ℕ → Interned
-constOf start t bs m v =
-    let i = positionOf bs (min m most) v in
+-- constant i of a table of m, new where i is past them; a new constant is written only where its node is
+unfoldable pub internOf : Start → Table → (tag dim fits m i : ℕ) → (words written : List ℕ) → Interned
+internOf start t tag dim fits m i words written =
     let new = leb (min m most) i in
-    let o = pushed start t (node constBase i 0 0) in
-    let rows = constRows t bs m new in
+    let o = pushed start t (node tag i 0 dim) in
+    let rows = constRows t fits m new in
     let refused = anyHolds rows || missing (o .id) in
     record {
-      said = first (rows ++ (row (missing (o .id)) 4 ∷ [])) (gives (foundAt (o .id) ∷ 0 ∷ []));
+      said = first (rows ++ (row (missing (o .id)) 4 ∷ [])) (gives (foundAt (o .id) ∷ dim ∷ []));
       after = cond (anyHolds rows) t (o .after);
-      bases = cond refused bs (cond new (set bs m (v % p)) bs);
+      consts = cond refused words (cond new written words);
       count = cond refused m (cond new (m + 1) m);
     }
 
-abbrev pub withBoth : IrBuilder → ℕ → ℕ → IrBuilder
-withBoth b n m = record { nodes = n; bases = m; exts = b .exts; roots = b .roots }
+-- a base constant, shared by value
+abbrev pub constOf : Start → Table → List ℕ → ℕ → ℕ → Interned
+constOf start t bs m v = internOf start t constBase 0 (length bs) m (positionOf bs (min m most) v) bs (withBase bs m v)
+
+-- an extension constant, of three limbs
+abbrev pub constExtOf : Start → Table → List ℕ → ℕ → List ℕ → Interned
+constExtOf start t xs m v = internOf start t constExt 1 (length xs / 3) m (extPositionOf xs (min m most) v) xs (withExt xs m v)
+
+-- the counts of nodes and of base constants, or of extension constants
+abbrev pub withBases : IrBuilder → ℕ → ℕ → IrBuilder
+withBases b n m = record { nodes = n; bases = m; exts = b .exts; roots = b .roots }
+
+abbrev pub withExts : IrBuilder → ℕ → ℕ → IrBuilder
+withExts b n m = record { nodes = n; bases = b .bases; exts = m; roots = b .roots }
 
 -- the promise: the answer, the counts and each lent word are the outcome's
-pub record Interns (o : Interned) (b : IrBuilder) (r : Answer) (ns ps bs : List ℕ) : Type 0 where
+pub record Interns (counts : IrBuilder → ℕ → ℕ → IrBuilder) (o : Interned) (b : IrBuilder) (r : Answer) (ns ps cs : List ℕ) : Type 0 where
   pub said : saidOfAnswer r ≡ o .said
-  pub builder : builderAfter b r ≡ withBoth b (o .after .count) (o .count)
+  pub builder : builderAfter b r ≡ counts b (o .after .count) (o .count)
   pub nodes : ns ≡ o .after .nodes
   pub places : ps ≡ o .after .places
-  pub bases : bs ≡ o .bases
+  pub consts : cs ≡ o .consts
 
 -- ---- what is kept of a constant once its node was pushed
 
-abbrev pub keptAnswer : Put → IrBuilder → Bool → Answer
-keptAnswer (At id count) b new = Made (record { id = id; dim = 0 }) (withBoth b count (cond new (b .bases + 1) (b .bases)))
-keptAnswer Full b new = Refused NodesFull
-
-abbrev pub keptBases : Put → List ℕ → ℕ → Bool → ℕ → List ℕ
-keptBases (At id count) bs m new v = cond new (set bs m (v % p)) bs
-keptBases Full bs m new v = bs
-
-pub record Keeps (q : Put) (b : IrBuilder) (bs : List ℕ) (new : Bool) (v : ℕ) (r : Answer) (bs′ : List ℕ) : Type 0 where
-  pub answer : r ≡ keptAnswer q b new
-  pub bases : bs′ ≡ keptBases q bs (b .bases) new v
+-- it is written where it is new and its node has a place
+abbrev pub keptB : Put → Bool → Bool
+keptB (At id count) new = new
+keptB Full new = false
 
 -- ---- the fresh builder
 
@@ -111,6 +135,6 @@ newOf start nodes places bs =
     record {
       said = first rows (o .said);
       after = cond (anyHolds rows) t (o .after);
-      bases = cond (anyHolds rows) bs (o .bases);
+      consts = cond (anyHolds rows) bs (o .consts);
       count = cond (anyHolds rows) 0 (o .count);
     }

@@ -1,21 +1,25 @@
 // The builder's calls: leaves, arithmetic and roots. A builder is its counts; its tables are lent to each call, and
 // hold any words.
-ghost use mathlib.Core.Bool.{true, cond};
+ghost use mathlib.Core.Bool.{cond};
 ghost use mathlib.Core.List.{[]};
 ghost use mathlib.Core.Path.{_≡_};
-ghost use Prim.Native.Nat.{_*_, _<_, _≤_};
+ghost use Prim.Native.Nat.{_*_, _≤_};
 ghost use lib.ListN.{length};
 ghost use Rattle.field.specs.Base.{signed};
 ghost use Rattle.ir.specs.Program.{joined};
-ghost use Rattle.builder.specs.Words.{wordsOf};
+ghost use Rattle.builder.specs.Words.{wordsOf, node};
 ghost use Rattle.builder.specs.Hashing.{startOf};
 ghost use Rattle.builder.specs.Table.{table};
 ghost use Rattle.builder.specs.Answers.{shortB, strangerB, answerOf, made, Gives};
 ghost use Rattle.builder.specs.Calls.{uniformOf, cellOf, binaryOf, unaryOf, challengeOf, alphaPowerOf, tableOffsetOf, mainCellOf, auxCellOf, addOf, subOf, mulOf, negOf, embedOf};
-ghost use Rattle.builder.specs.Consts.{constOf, Interns, Keeps, empty, newOf};
+ghost use Rattle.builder.specs.Consts.{constOf, constExtOf, withBases, withExts, keptB, Interns, empty, newOf};
 ghost use Rattle.builder.specs.Roots.{emitOf, EmitGives, finished};
 use super::constants::crowded;
+use super::constants::grown;
 use super::constants::position;
+use super::constants::position_ext;
+use super::constants::write_base;
+use super::constants::write_ext;
 use super::roots::clear;
 use super::roots::greater;
 use super::table::Node;
@@ -24,12 +28,14 @@ use super::table::least;
 use super::table::push;
 use super::table::room;
 use super::table::wide;
+use field::extensions_goldilocks::Ext;
 use field::goldilocks::Fp;
 use ir::node::DIM_BASE;
 use ir::node::DIM_EXT;
 use ir::node::OP_ADD;
 use ir::node::OP_ALPHA_POW;
 use ir::node::OP_CONST_BASE;
+use ir::node::OP_CONST_EXT;
 use ir::node::OP_EMBED;
 use ir::node::OP_MUL;
 use ir::node::OP_NEG;
@@ -107,6 +113,19 @@ fn join(a: u32, b: u32) -> u32
     DIM_BASE
 }
 
+// The node of a constant.
+fn leaf(tag: u32, i: usize, dim: u32) -> Node
+    requires { ⌜ i ≤ 536870911 ⌝ }
+    ensures { λ r. ⌜ wordsOf r ≡ node tag i 0 dim ⌝ }
+{
+    Node {
+        tag,
+        x: i as u32,
+        y: 0,
+        dim,
+    }
+}
+
 fn cell_dim(main: bool) -> u32
     ensures { λ r. ⌜ r ≡ cond main 0 1 ⌝ }
 {
@@ -141,39 +160,12 @@ fn place(builder: IrBuilder, nodes: &mut [u32], places: &mut [u32], w: Node) -> 
 }
 
 // A constant is written once its node was pushed, so that a refusal leaves none behind.
-fn keep(q: Put, builder: IrBuilder, bases: &mut [u64], new: bool, v: u64) -> Answer
-    requires { ⌜ (new ≡ true → builder .bases < length (now bases)) ⌝ }
-    ensures { λ r. ⌜ Keeps q builder (now (bases .entry)) new v r (now (bases .exit)) ⌝ }
+fn keeps(q: Put, new: bool) -> bool
+    ensures { λ r. ⌜ r ≡ keptB q new ⌝ }
 {
-    let m = builder.bases;
     match q {
-        Put::At { id, count } => {
-            let expr = Expr { id, dim: DIM_BASE };
-            let exts = builder.exts;
-            let roots = builder.roots;
-            if new {
-                bases[m] = Fp::reduce(v);
-                return Answer::Made {
-                    expr,
-                    builder: IrBuilder {
-                        nodes: count,
-                        bases: m + 1,
-                        exts,
-                        roots,
-                    },
-                };
-            }
-            Answer::Made {
-                expr,
-                builder: IrBuilder {
-                    nodes: count,
-                    bases: m,
-                    exts,
-                    roots,
-                },
-            }
-        }
-        Put::Full => Answer::Refused(Refusal::NodesFull),
+        Put::At { id, count } => new,
+        Put::Full => false,
     }
 }
 
@@ -188,7 +180,7 @@ impl Expr {
 impl IrBuilder {
     // A fresh builder: every lent place is free, and node 0 is the base constant 0.
     pub fn new(nodes: &mut [u32], places: &mut [u32], bases: &mut [u64]) -> Answer
-        ensures { λ r. ⌜ Interns (newOf startOf (now (nodes .entry)) (now (places .entry)) (now (bases .entry))) empty r (now (nodes .exit)) (now (places .exit)) (now (bases .exit)) ⌝ }
+        ensures { λ r. ⌜ Interns withBases (newOf startOf (now (nodes .entry)) (now (places .entry)) (now (bases .entry))) empty r (now (nodes .exit)) (now (places .exit)) (now (bases .exit)) ⌝ }
     {
         let k = places.len();
         if bases.len() == 0 {
@@ -412,6 +404,28 @@ impl IrBuilder {
         }
     }
 
+    fn with_bases(self, m: usize) -> IrBuilder
+        ensures { λ r. ⌜ r ≡ withBases self (self .nodes) m ⌝ }
+    {
+        IrBuilder {
+            nodes: self.nodes,
+            bases: m,
+            exts: self.exts,
+            roots: self.roots,
+        }
+    }
+
+    fn with_exts(self, m: usize) -> IrBuilder
+        ensures { λ r. ⌜ r ≡ withExts self (self .nodes) m ⌝ }
+    {
+        IrBuilder {
+            nodes: self.nodes,
+            bases: self.bases,
+            exts: m,
+            roots: self.roots,
+        }
+    }
+
     // How many nodes there are.
     pub fn len(self) -> usize
         ensures { λ r. ⌜ r ≡ self .nodes ⌝ }
@@ -427,29 +441,56 @@ impl IrBuilder {
         bases: &mut [u64],
         v: u64,
     ) -> Answer
-        ensures { λ r. ⌜ Interns (constOf startOf (table (now (nodes .entry)) (now (places .entry)) (self .nodes)) (now (bases .entry)) (self .bases) v) self r (now (nodes .exit)) (now (places .exit)) (now (bases .exit)) ⌝ }
+        ensures { λ r. ⌜ Interns withBases (constOf startOf (table (now (nodes .entry)) (now (places .entry)) (self .nodes)) (now (bases .entry)) (self .bases) v) self r (now (nodes .exit)) (now (places .exit)) (now (bases .exit)) ⌝ }
     {
         let n = self.nodes;
         let m = self.bases;
+        let fits = bases.len();
         if short_nodes(nodes.len(), places.len(), n) {
             return Answer::Refused(Refusal::ShortMemory);
         }
-        if bases.len() < m {
+        if fits < m {
             return Answer::Refused(Refusal::ShortMemory);
         }
         let most = least(m, MOST);
         let i = position(bases, most, v);
         let new = most <= i;
-        if crowded(new, bases.len(), m) {
+        if crowded(new, fits, m) {
             return Answer::Refused(Refusal::ConstantsFull);
         }
-        let w = Node {
-            tag: OP_CONST_BASE,
-            x: i as u32,
-            y: 0,
-            dim: DIM_BASE,
-        };
-        keep(push(nodes, n, places, w), self, bases, new, v)
+        let q = push(nodes, n, places, leaf(OP_CONST_BASE, i, DIM_BASE));
+        write_base(keeps(q, new), bases, m, v);
+        settle(q, self.with_bases(grown(new, m)), DIM_BASE)
+    }
+
+    // An extension constant, likewise.
+    pub fn const_ext(
+        self,
+        nodes: &mut [u32],
+        places: &mut [u32],
+        exts: &mut [u64],
+        v: Ext,
+    ) -> Answer
+        ensures { λ r. ⌜ Interns withExts (constExtOf startOf (table (now (nodes .entry)) (now (places .entry)) (self .nodes)) (now (exts .entry)) (self .exts) (v .limbs)) self r (now (nodes .exit)) (now (places .exit)) (now (exts .exit)) ⌝ }
+    {
+        let n = self.nodes;
+        let m = self.exts;
+        let fits = exts.len() / 3;
+        if short_nodes(nodes.len(), places.len(), n) {
+            return Answer::Refused(Refusal::ShortMemory);
+        }
+        if fits < m {
+            return Answer::Refused(Refusal::ShortMemory);
+        }
+        let most = least(m, MOST);
+        let i = position_ext(exts, most, v);
+        let new = most <= i;
+        if crowded(new, fits, m) {
+            return Answer::Refused(Refusal::ConstantsFull);
+        }
+        let q = push(nodes, n, places, leaf(OP_CONST_EXT, i, DIM_EXT));
+        write_ext(keeps(q, new), exts, m, v);
+        settle(q, self.with_exts(grown(new, m)), DIM_EXT)
     }
 
     // A negative constant is p - |v|.
@@ -460,14 +501,14 @@ impl IrBuilder {
         bases: &mut [u64],
         v: i64,
     ) -> Answer
-        ensures { λ r. ⌜ Interns (constOf startOf (table (now (nodes .entry)) (now (places .entry)) (self .nodes)) (now (bases .entry)) (self .bases) (signed v)) self r (now (nodes .exit)) (now (places .exit)) (now (bases .exit)) ⌝ }
+        ensures { λ r. ⌜ Interns withBases (constOf startOf (table (now (nodes .entry)) (now (places .entry)) (self .nodes)) (now (bases .entry)) (self .bases) (signed v)) self r (now (nodes .exit)) (now (places .exit)) (now (bases .exit)) ⌝ }
     {
         let x = Fp::from_i64(v);
         self.const_base(nodes, places, bases, x)
     }
 
     pub fn one(self, nodes: &mut [u32], places: &mut [u32], bases: &mut [u64]) -> Answer
-        ensures { λ r. ⌜ Interns (constOf startOf (table (now (nodes .entry)) (now (places .entry)) (self .nodes)) (now (bases .entry)) (self .bases) 1) self r (now (nodes .exit)) (now (places .exit)) (now (bases .exit)) ⌝ }
+        ensures { λ r. ⌜ Interns withBases (constOf startOf (table (now (nodes .entry)) (now (places .entry)) (self .nodes)) (now (bases .entry)) (self .bases) 1) self r (now (nodes .exit)) (now (places .exit)) (now (bases .exit)) ⌝ }
     {
         self.const_base(nodes, places, bases, 1)
     }

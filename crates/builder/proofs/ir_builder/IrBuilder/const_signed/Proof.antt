@@ -1,5 +1,6 @@
 -- `const_signed` meets its contract.
 -- Assumes nothing.
+use denote.Ref.{now}
 use mir.Facts.{toZ-ofZ}
 use Rattle.field.specs.Base.{Least, signed}
 use Rattle.field.proofs.Laws.{least-exact}
@@ -24,7 +25,7 @@ same-length-3 : tie.Need-same-length-3
 same-length-3 c = search needs
 
 returns : tie.Need-returns
-returns c = let h = c .before .before .before .before .before .before .before .before .before .before .from-i64 .ensures in let k : Least (signed (c .before .before .before .before .before .before .before .before .before .before .before .before .before .before .args .v)) (c .before .before .before .before .before .before .before .before .before .before .from-i64 .result) = rw (toZ-ofZ (c .before .before .before .before .before .before .before .before .before .before .before .before .before .before .fits .v)) at h in signed-gives _ _ _ _ _ _ _ _ _ _ (least-exact k) (c .before .before .before .before .before .before .const-base .ensures)
+returns c = let a = c .before .before .before .before .before .before .before .before .before .before .before .before .before .before .args in let h = c .before .before .before .before .before .before .before .before .before .before .from-i64 .ensures in let k : Least (signed (a .v)) (c .before .before .before .before .before .before .before .before .before .before .from-i64 .result) = rw (toZ-ofZ (c .before .before .before .before .before .before .before .before .before .before .before .before .before .before .fits .v)) at h in signed-gives _ (now (a .bases)) (a .self .bases) _ _ _ _ _ _ _ (least-exact k) (c .before .before .before .before .before .before .const-base .ensures)
 
 pub const-signed-spec : {M : Type 1} → statement M
 const-signed-spec = tie.close (tie.spec from-i64-requires const-base-requires same-length same-length-2 same-length-3 returns)
