@@ -9,9 +9,9 @@ use differential::blobs::published::words as blob_words;
 use differential::lowering::Lengths;
 use differential::programs::Words;
 use differential::programs::published::{Published, words};
-use host::blob::BlobCounts;
-use host::lower::{self, Lists, Tables};
-use host::program;
+use host::lent::blob::BlobCounts;
+use host::lent::lower::{self, Lists, Rooms};
+use host::lent::program;
 use stark::constraint_ir::device::DeviceProgram;
 
 use crate::summary::{Summary, cpu_model};
@@ -90,7 +90,7 @@ impl Case {
             slot_of,
             free_slots,
         };
-        let tables = Tables {
+        let tables = Rooms {
             nodes: &mut self.nodes,
             base_consts: &mut self.base_consts,
             ext_consts: &mut self.ext_consts,

@@ -9,7 +9,7 @@ use std::time::Instant;
 use differential::inputs::Random;
 use differential::programs::published::{ExtElement, ProverFrame, Published, words};
 use differential::programs::{Cells, Words};
-use host::program::{self, Shape};
+use host::lent::program::{self, Shape};
 use math::field::extensions_goldilocks::Degree3GoldilocksExtensionField as Ext;
 use math::field::goldilocks::{GoldilocksElement as BaseElement, GoldilocksField as Base};
 use stark::constraint_ir::{Expr, IrBuilder, interp};

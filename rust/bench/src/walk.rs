@@ -11,8 +11,8 @@ use differential::blobs::{BlobWords, Lengths};
 use differential::inputs::Random;
 use differential::programs::Cells;
 use differential::programs::published::Published;
-use host::blob::{self, Written};
-use host::program::Shape;
+use host::lent::blob::{self, Written};
+use host::lent::program::Shape;
 use stark::constraint_ir::device::DeviceProgram;
 use stark::constraint_ir::{Expr, IrBuilder};
 

@@ -7,7 +7,7 @@ use std::collections::BTreeSet;
 use std::vec::IntoIter;
 
 use host::Refusal;
-use host::program::Shape;
+use host::lent::program::Shape;
 
 use crate::Limbs;
 use crate::programs::compare::Answer;

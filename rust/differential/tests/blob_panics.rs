@@ -14,7 +14,7 @@ use differential::programs::compare::{Answer, fresh_words, same_residues};
 use differential::programs::{Cells, PROVER};
 use differential::quiet::unless_it_panics;
 use host::Refusal;
-use host::program::Shape;
+use host::lent::program::Shape;
 
 /// The evals that the published walk leaves, or nothing if it panics.
 fn published(words: &BlobWords, cells: &Cells, lengths: Lengths) -> Option<(Vec<u64>, Vec<u64>)> {

@@ -15,8 +15,8 @@ use differential::programs::compare::Answer;
 use differential::programs::{Cells, PROVER};
 use differential::{P, Score};
 use host::Refusal;
-use host::blob::{Written, check_blob, walk};
-use host::program::Shape;
+use host::lent::blob::{Written, check_blob, walk};
+use host::lent::program::Shape;
 
 fn refusal(number: u8, place: u64) -> Answer {
     Err(Refusal { number, place })

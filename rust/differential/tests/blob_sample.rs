@@ -15,9 +15,9 @@ use differential::lowering::{self, compare, sample};
 use differential::programs::compare::Answer;
 use differential::programs::{Cells, Words, published};
 use host::Refusal;
-use host::blob::{BlobCounts, Written, check_blob, walk};
-use host::lower::{Lists, Sizes, Tables, lower_into};
-use host::program::Counts;
+use host::lent::blob::{BlobCounts, Written, check_blob, walk};
+use host::lent::lower::{Lists, Rooms, Sizes, lower_into};
+use host::lent::program::Counts;
 
 /// What is lent for writing holds this beforehand: no call writes it.
 const KEPT: u64 = u64::MAX;
@@ -185,7 +185,7 @@ impl Memory {
             slot_of,
             free_slots,
         };
-        let tables = Tables {
+        let tables = Rooms {
             nodes: &mut self.nodes,
             base_consts: &mut self.base_consts,
             ext_consts: &mut self.ext_consts,

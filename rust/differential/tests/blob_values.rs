@@ -14,7 +14,7 @@ use differential::programs::published::{self, ProverFrame, Published, ROW_FRAME_
 use differential::programs::sample::stated_case;
 use differential::programs::{Cells, PROVER, foreign, small_shape};
 use differential::{P, Score};
-use host::program::{Counts, Shape};
+use host::lent::program::{Counts, Shape};
 use stark::constraint_ir::IrBuilder;
 use stark::program_e;
 

@@ -11,11 +11,12 @@ use differential::programs::compare::Answer;
 use differential::programs::{Cells, Words, foreign, published, small_shape};
 use differential::{P, Score};
 use host::Refusal;
-use host::blob::{BlobCounts, Written, check_blob, walk};
-use host::bytes::{
-    FrameBytes, FrameRooms, Lists, ProgramBytes, Rooms, WrittenBytes, check_stored, lower_stored_into, walk_stored,
+use host::lent::blob::{BlobCounts, Written, check_blob, walk};
+use host::lent::bytes::{
+    FrameBytes, FrameRooms, ProgramBytes, WrittenBytes, check_stored, lower_stored_into, walk_stored,
 };
-use host::program::check_program;
+use host::lent::lower::{Lists, Rooms};
+use host::lent::program::check_program;
 
 /// So many where the build is optimised, else a few of them.
 const fn many(cases: usize) -> usize {

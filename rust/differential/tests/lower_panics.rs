@@ -15,7 +15,7 @@ use differential::programs::compare::Answer;
 use differential::programs::published::{Published, words};
 use differential::quiet::unless_it_panics;
 use host::Refusal;
-use host::program::Shape;
+use host::lent::program::Shape;
 use stark::constraint_ir::{Dim, Op};
 
 /// The published blob, or nothing if `lower` panics.

@@ -16,8 +16,8 @@ use differential::programs::published;
 use differential::programs::{Words, foreign, small_shape};
 use differential::{P, Score};
 use host::Refusal;
-use host::lower::{Lists, Sizes, Tables, lower_into};
-use host::program::Counts;
+use host::lent::lower::{Lists, Rooms, Sizes, lower_into};
+use host::lent::program::Counts;
 
 fn refusal(number: u8, place: u64) -> Answer {
     Err(Refusal { number, place })
@@ -278,7 +278,7 @@ fn lists_of_any_content() {
                     slot_of,
                     free_slots,
                 },
-                Tables {
+                Rooms {
                     nodes: &mut nodes,
                     base_consts: &mut base_consts,
                     ext_consts: &mut ext_consts,

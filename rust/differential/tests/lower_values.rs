@@ -14,7 +14,7 @@ use differential::programs::build::{Recipe, build};
 use differential::programs::published::{self, Published};
 use differential::programs::{Cells, PROVER, Words, foreign, small_shape};
 use differential::{P, Score};
-use host::program::{Counts, Shape};
+use host::lent::program::{Counts, Shape};
 use stark::constraint_ir::IrBuilder;
 use stark::program_e;
 

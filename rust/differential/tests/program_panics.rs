@@ -12,7 +12,7 @@ use differential::programs::compare::{self, Asked, Lengths};
 use differential::programs::published::{self, ProverFrame, VerifierFrame};
 use differential::programs::{Cells, PROVER, VERIFIER};
 use differential::quiet::unless_it_panics;
-use host::program::Shape;
+use host::lent::program::Shape;
 use stark::constraint_ir::IrBuilder;
 
 fn panics(body: impl FnOnce()) -> bool {

@@ -14,7 +14,7 @@ use differential::programs::published::{self, ext_element};
 use differential::programs::{Cells, PROVER, VERIFIER, Words, foreign, small_shape};
 use differential::{P, Score};
 use host::Refusal;
-use host::program::{Counts, Shape};
+use host::lent::program::{Counts, Shape};
 use stark::constraint_ir::IrBuilder;
 
 /// So many where the build is optimised, else a few of them.

@@ -11,7 +11,7 @@ use differential::lines::{Numbers, file_has};
 use differential::programs::agree::{Case, agree};
 use differential::programs::sample::{cases, lines};
 use differential::programs::{Cells, Words, published};
-use host::program::{self, Counts};
+use host::lent::program::{self, Counts};
 
 #[test]
 fn host_gives_the_sample() {

@@ -9,7 +9,7 @@ use differential::programs::agree::{Case, agree};
 use differential::programs::compare::Answer;
 use differential::programs::{Cells, PROVER, VERIFIER, Words, published};
 use differential::{P, Score};
-use host::program::{Counts, Program, Shape, check_program};
+use host::lent::program::{Counts, Program, Shape, check_program};
 
 type Node = [u32; 4];
 

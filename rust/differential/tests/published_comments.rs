@@ -8,7 +8,7 @@ use differential::blobs::published::{DeviceFrame, lower};
 use differential::programs::Cells;
 use differential::programs::published::{ProverFrame, Published, eval_base, ext_element};
 use differential::quiet::unless_it_panics;
-use host::program::Shape;
+use host::lent::program::Shape;
 use stark::constraint_ir::device::DeviceProgram;
 use stark::constraint_ir::{Expr, IrBuilder};
 

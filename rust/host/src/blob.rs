@@ -1,163 +1,264 @@
-//! Blobs, which are lowered programs: the check and the walk.
-//!
-//! A node is four words: op, a, b, res. The tags of op are those of programs. Bit 31 of res says whether the result goes
-//! into an extension slot, the other bits which one. A constant, challenge or alpha power has its index in a; a trace cell
-//! has its column in a and in b its step times 256, plus 65,536 if it is of the main trace. An operation has operands: the
-//! kind times 2^29 plus a payload. Kinds are 0 base slot, 1 extension slot, 2 base constant, 3 extension constant,
-//! 4 challenge, 5 alpha power, 6 table offset; the payload is the slot or index. A base result takes kinds 0 and 2. A root
-//! names a slot as res does. A slot that is read has to have been filled by an earlier node. Words that a tag does not use
-//! are 0.
-//!
-//! A slice may be longer than its count says; the words past it are neither read nor written.
-//!
-//! Both calls take their refusals in one order, 2, 1, 14, 11, 12, and answer the first that holds. They borrow one byte a
-//! slot, which may hold anything. The bytes are 0 after "done", 11 and 12, and as they were after 2, 1 and 14.
+//! Blobs that own their words and their stored form.
 
-use crate::program::{Frame, Shape};
-use crate::{Refusal, calls, done};
+use crate::lent::blob::{self as lent, BlobCounts, Written};
+use crate::lent::bytes;
+use crate::lent::lower::Rooms;
+use crate::{Error, Ext, Frame, Shape, Value};
 
-/// How many of each thing a blob has.
-#[derive(Clone, Copy, Debug, Default, PartialEq, Eq)]
-pub struct BlobCounts {
-    pub nodes: u32,
-    pub base_consts: u32,
-    pub ext_consts: u32,
-    pub roots: u32,
-    /// Constraints below this number have base values. It may be past the root count.
-    pub num_base: u32,
-    pub base_slots: u32,
-    pub ext_slots: u32,
+/// Words of a stored form's trailer.
+const TRAILER: usize = 8;
+
+/// Four tables, as rooms that a call fills.
+#[derive(Clone, Debug, PartialEq, Eq)]
+pub(crate) struct Tables {
+    nodes: Vec<[u32; 4]>,
+    base_consts: Vec<u64>,
+    ext_consts: Vec<Ext>,
+    roots: Vec<u32>,
 }
 
-impl BlobCounts {
-    /// How many bytes the calls borrow.
-    pub fn bytes(&self) -> usize {
-        self.base_slots as usize + self.ext_slots as usize
+impl Tables {
+    pub(crate) fn new(nodes: usize, base_consts: usize, ext_consts: usize, roots: usize) -> Self {
+        Tables {
+            nodes: vec![[0; 4]; nodes],
+            base_consts: vec![0; base_consts],
+            ext_consts: vec![[0; 3]; ext_consts],
+            roots: vec![0; roots],
+        }
     }
 
-    /// How many words the slot room has: one a base slot, then three an extension slot.
-    pub fn slot_words(&self) -> usize {
-        self.base_slots as usize + 3 * self.ext_slots as usize
+    pub(crate) fn lend_mut(&mut self) -> Rooms<'_> {
+        Rooms {
+            nodes: self.nodes.as_flattened_mut(),
+            base_consts: &mut self.base_consts,
+            ext_consts: self.ext_consts.as_flattened_mut(),
+            roots: &mut self.roots,
+        }
+    }
+
+    /// Bytes of these tables in stored form A.
+    pub(crate) fn stored_len(&self) -> usize {
+        16 * self.nodes.len()
+            + 8 * self.base_consts.len()
+            + 24 * self.ext_consts.len()
+            + 4 * self.roots.len()
+            + 4 * TRAILER
     }
 }
 
-/// A blob in lent words.
-#[derive(Clone, Copy, Debug)]
-pub struct Blob<'a> {
-    pub counts: BlobCounts,
-    /// Four words a node.
-    pub nodes: &'a [u32],
-    /// One word a constant.
-    pub base_consts: &'a [u64],
-    /// Three words a constant.
-    pub ext_consts: &'a [u64],
-    /// The slot of each constraint.
-    pub roots: &'a [u32],
-}
-
-/// What a walk writes.
-#[derive(Debug)]
-pub struct Written<'a> {
-    /// As many words as the smaller of `num_base` and the root count.
-    pub base_evals: &'a mut [u64],
-    /// Three words for every root if any is at or past `num_base`, else none.
-    pub ext_evals: &'a mut [u64],
-    /// One byte a slot.
-    pub bytes: &'a mut [u8],
-    /// One word a base slot, then three words an extension slot, of any content.
-    pub slots: &'a mut [u64],
-}
-
-/// Calls the library on a blob and a shape, with the call's own numbers and memory. A slice goes as pointer and length, so
-/// C's parameters are many: they stand here once for both calls.
-macro_rules! on_blob {
-    ($call:ident, $blob:expr, $shape:expr, [$($number:expr),*], [$($memory:expr),*]) => {{
-        let blob: &Blob = $blob;
-        let counts = blob.counts;
-        let shape: &Shape = $shape;
-        calls::$call(
-            counts.nodes,
-            counts.base_consts,
-            counts.ext_consts,
-            counts.roots,
-            counts.num_base,
-            counts.base_slots,
-            counts.ext_slots,
-            shape.steps,
-            shape.main_width,
-            shape.aux_width,
-            shape.challenges,
-            shape.alphas,
-            $($number,)*
-            blob.nodes.as_ptr(),
-            blob.nodes.len(),
-            $($memory,)*
-        )
-    }};
-}
-
-/// Whether the blob may be walked over a frame of this shape. Constants and cells are not looked at, and the tables of
-/// constants are not needed. Refusals: 2, 1, 11, 12.
-pub fn check_blob(blob: &Blob, shape: &Shape, bytes: &mut [u8]) -> Result<(), Refusal> {
-    // SAFETY: the library reads inside the lent slices only and writes inside `bytes` only, which nobody else holds
-    // meanwhile. Each pointer and length are of one slice; counts that say more than the slices hold are refused.
-    done(unsafe {
-        on_blob!(
-            cir_check_blob,
-            blob,
-            shape,
-            [],
-            [blob.roots.as_ptr(), blob.roots.len(), bytes.as_mut_ptr(), bytes.len()]
-        )
-    })
-}
-
-/// Checks the blob and walks it over a frame whose main cells are one word: writes constraint c below `num_base` to
-/// `base_evals[c]` and every other to `ext_evals[3 * c..3 * c + 3]`. No other word of the two changes. `slots` is cleared
-/// first and is left with the final slots, those never filled 0; after a refusal it is as it was.
+/// A lowered program, with its stored form.
 ///
-/// Refusals: 2, 1, 14, 11, 12.
-pub fn walk(blob: &Blob, frame: &Frame, written: Written) -> Result<(), Refusal> {
-    let Written {
-        base_evals,
-        ext_evals,
-        bytes,
-        slots,
-    } = written;
-    let [o0, o1, o2] = frame.table_offset;
-    // SAFETY: the library reads inside the lent slices only and writes inside the four of `written` only, which nobody
-    // else holds meanwhile. Each pointer and length are of one slice; counts and a shape that say more than the slices
-    // hold are refused.
-    done(unsafe {
-        on_blob!(
-            cir_walk,
-            blob,
-            &frame.shape,
-            [o0, o1, o2],
-            [
-                blob.base_consts.as_ptr(),
-                blob.base_consts.len(),
-                blob.ext_consts.as_ptr(),
-                blob.ext_consts.len(),
-                blob.roots.as_ptr(),
-                blob.roots.len(),
-                frame.main.as_ptr(),
-                frame.main.len(),
-                frame.aux.as_ptr(),
-                frame.aux.len(),
-                frame.challenges.as_ptr(),
-                frame.challenges.len(),
-                frame.alphas.as_ptr(),
-                frame.alphas.len(),
-                base_evals.as_mut_ptr(),
-                base_evals.len(),
-                ext_evals.as_mut_ptr(),
-                ext_evals.len(),
-                bytes.as_mut_ptr(),
-                bytes.len(),
-                slots.as_mut_ptr(),
-                slots.len()
-            ]
-        )
+/// It comes from [`Program::lower`](crate::Program::lower) or from a file; a file may hold any words. What may be walked over
+/// frames of a shape is what passes [`check`](Blob::check).
+#[derive(Clone, Debug, PartialEq, Eq)]
+pub struct Blob {
+    file: Vec<u8>,
+    counts: BlobCounts,
+    tables: Tables,
+}
+
+impl Blob {
+    /// A blob of a stored form that the library wrote or read, and the tables that it filled.
+    pub(crate) fn of(file: Vec<u8>, mut tables: Tables) -> Self {
+        let counts = stored_counts(&file).expect("a stored form has a trailer");
+        tables.nodes.truncate(counts.nodes as usize);
+        Blob { file, counts, tables }
+    }
+
+    /// Reads a blob in stored form A. Only the framing is looked at: [`check`](Blob::check) judges the rest.
+    ///
+    /// # Errors
+    ///
+    /// [`Error::NotStored`] where the file is under 32 bytes, or its distance or length is not as its counts say.
+    pub fn read(file: &[u8]) -> Result<Self, Error> {
+        // Counts that say more than the file holds are refused, so rooms need be no longer than that.
+        let counts = stored_counts(file).unwrap_or_default();
+        let most = |count: u32, bytes: usize| (count as usize).min(file.len() / bytes);
+        let mut tables = Tables::new(
+            most(counts.nodes, 16),
+            most(counts.base_consts, 8),
+            most(counts.ext_consts, 24),
+            most(counts.roots, 4),
+        );
+        // The call reads, then checks. No shape has so many steps, so what it says after reading is always the same.
+        let no_shape = Shape {
+            steps: usize::MAX,
+            ..Shape::default()
+        };
+        let said = bytes::check_stored(file, &no_shape, tables.lend_mut(), &mut []);
+        match said.map_err(Error::from) {
+            Err(Error::OverLimit) => Ok(Blob::of(file.to_vec(), tables)),
+            Err(refused) => Err(refused),
+            Ok(()) => unreachable!("a shape over its limit is refused"),
+        }
+    }
+
+    /// The blob in stored form A.
+    pub fn stored(&self) -> &[u8] {
+        &self.file
+    }
+
+    /// How many of each thing the blob has. Those of a file may be any numbers: [`check`](Blob::check) and the walk borrow a
+    /// byte and a word or three for every slot.
+    pub fn counts(&self) -> BlobCounts {
+        self.counts
+    }
+
+    /// Op, a, b and res of each node. [`lent::blob`](crate::lent::blob) says what they mean.
+    pub fn nodes(&self) -> &[[u32; 4]] {
+        &self.tables.nodes
+    }
+
+    /// The base constants, each below [`P`](crate::P).
+    pub fn base_consts(&self) -> &[u64] {
+        &self.tables.base_consts
+    }
+
+    /// The extension constants, each limb below [`P`](crate::P).
+    pub fn ext_consts(&self) -> &[Ext] {
+        &self.tables.ext_consts
+    }
+
+    /// The slot of each constraint; bit 31 means an extension slot.
+    pub fn roots(&self) -> &[u32] {
+        &self.tables.roots
+    }
+
+    fn lend(&self) -> lent::Blob<'_> {
+        lent::Blob {
+            counts: self.counts,
+            nodes: self.tables.nodes.as_flattened(),
+            base_consts: &self.tables.base_consts,
+            ext_consts: self.tables.ext_consts.as_flattened(),
+            roots: &self.tables.roots,
+        }
+    }
+
+    /// Whether the blob may be walked over frames of this shape.
+    ///
+    /// # Errors
+    ///
+    /// [`Error::OverLimit`] of the shape; [`Error::IllegalBlob`] with the lowest node at fault, else the lowest root;
+    /// [`Error::ExtensionRoot`] where a root below `num_base` is an extension slot.
+    pub fn check(&self, shape: &Shape) -> Result<(), Error> {
+        lent::check_blob(&self.lend(), shape, &mut vec![0; self.counts.bytes()])?;
+        Ok(())
+    }
+
+    /// Checks the blob and walks it over one frame: every constraint's value. A [`walker`](Blob::walker) does the same for
+    /// many frames without allocating for each.
+    ///
+    /// # Errors
+    ///
+    /// Those of [`check`](Blob::check), and [`Error::ShortMemory`] where the frame is shorter than its shape says.
+    pub fn walk(&self, frame: &Frame) -> Result<Vec<Value>, Error> {
+        Ok(self.walker().walk(frame)?.iter().collect())
+    }
+
+    /// The memory for walks of this blob.
+    pub fn walker(&self) -> Walker<'_> {
+        Walker {
+            blob: self,
+            evals: EvalRoom::new(self.counts.num_base as usize, self.counts.roots as usize),
+            bytes: vec![0; self.counts.bytes()],
+            slots: vec![0; self.counts.slot_words()],
+        }
+    }
+}
+
+/// The counts in a file's trailer, if it is long enough to have one.
+fn stored_counts(file: &[u8]) -> Option<BlobCounts> {
+    let trailer = file.last_chunk::<{ 4 * TRAILER }>()?;
+    let word = |at: usize| u32::from_le_bytes(std::array::from_fn(|byte| trailer[4 * at + byte]));
+    Some(BlobCounts {
+        nodes: word(0),
+        base_consts: word(1),
+        ext_consts: word(2),
+        roots: word(3),
+        num_base: word(4),
+        base_slots: word(5),
+        ext_slots: word(6),
     })
+}
+
+/// Walks one blob over frame after frame in the same memory.
+#[derive(Clone, Debug)]
+pub struct Walker<'a> {
+    blob: &'a Blob,
+    evals: EvalRoom,
+    bytes: Vec<u8>,
+    slots: Vec<u64>,
+}
+
+impl Walker<'_> {
+    /// Checks the blob and walks it over one frame.
+    ///
+    /// # Errors
+    ///
+    /// Those of [`Blob::walk`].
+    pub fn walk(&mut self, frame: &Frame) -> Result<Evals<'_>, Error> {
+        let written = Written {
+            base_evals: &mut self.evals.base,
+            ext_evals: self.evals.ext.as_flattened_mut(),
+            bytes: &mut self.bytes,
+            slots: &mut self.slots,
+        };
+        lent::walk(&self.blob.lend(), &frame.lend(), written)?;
+        Ok(self.evals.show())
+    }
+}
+
+/// Eval buffers as long as constraints need.
+#[derive(Clone, Debug)]
+pub(crate) struct EvalRoom {
+    /// The values of constraints below `num_base`.
+    pub(crate) base: Vec<u64>,
+    /// All constraints have a place here if one at or past `num_base` is there; those below leave theirs as it was.
+    pub(crate) ext: Vec<Ext>,
+}
+
+impl EvalRoom {
+    pub(crate) fn new(num_base: usize, roots: usize) -> Self {
+        EvalRoom {
+            base: vec![0; num_base.min(roots)],
+            ext: vec![[0; 3]; if num_base < roots { roots } else { 0 }],
+        }
+    }
+
+    pub(crate) fn show(&self) -> Evals<'_> {
+        Evals {
+            base: &self.base,
+            ext: self.ext.get(self.base.len()..).unwrap_or_default(),
+        }
+    }
+}
+
+/// Every constraint's value at one row.
+#[derive(Clone, Copy, Debug, PartialEq, Eq)]
+pub struct Evals<'a> {
+    base: &'a [u64],
+    ext: &'a [Ext],
+}
+
+impl<'a> Evals<'a> {
+    /// The values of the constraints below `num_base`.
+    pub fn base(&self) -> &'a [u64] {
+        self.base
+    }
+
+    /// The values of the other constraints, the first of which is the one numbered `num_base`.
+    pub fn ext(&self) -> &'a [Ext] {
+        self.ext
+    }
+
+    /// One constraint's value, if there is such a constraint.
+    pub fn get(&self, constraint: usize) -> Option<Value> {
+        self.iter().nth(constraint)
+    }
+
+    /// All values in the order of the constraints.
+    pub fn iter(&self) -> impl Iterator<Item = Value> + 'a {
+        let base = self.base.iter().map(|word| Value::Base(*word));
+        base.chain(self.ext.iter().map(|limbs| Value::Ext(*limbs)))
+    }
 }

@@ -1,257 +1,164 @@
-//! Constraint programs: the check and the three evaluators.
-//!
-//! A node is four words: tag, x, y, dim. Tags are 0 base constant, 1 extension constant, 2 trace cell, 3 challenge,
-//! 4 alpha power, 5 table offset, 6 add, 7 sub, 8 mul, 9 neg, 10 embed; dim is 0 for base and 1 for extension. A
-//! constant, challenge or alpha power has its index in x; an operation has the ids of its operands, which are below its
-//! own. A trace cell has its column in x and in y its step times 256, plus 65,536 if it is of the main trace. Words that
-//! a tag does not use are 0.
-//!
-//! A slice may be longer than its count says; the words past it are neither read nor written.
-//!
-//! Every call takes its refusals in one order, 8, 9, 2, 1, 14, 6, 7, 13, 12, 10, without those that cannot happen in it,
-//! and answers the first that holds.
+//! Constraint programs that own their words.
 
-use crate::{Refusal, done};
+use crate::blob::{Blob, EvalRoom, Tables};
+use crate::lent::bytes::{self, ProgramBytes};
+use crate::lent::lower::Lists;
+use crate::lent::program::{self as lent, Counts};
+use crate::{Error, Ext, Frame, Value};
 
-/// How many of each thing a program has.
-#[derive(Clone, Copy, Debug, Default, PartialEq, Eq)]
-pub struct Counts {
-    /// At most 536,870,911.
-    pub nodes: usize,
-    /// At most 536,870,911.
-    pub base_consts: usize,
-    /// At most 536,870,911.
-    pub ext_consts: usize,
-    /// At most 4,294,967,295.
-    pub roots: usize,
-    /// Constraints below this number have base values. At most 4,294,967,295; it may be past the root count.
+/// A program's words, which [`Program::new`] checks. [`lent::program`](crate::lent::program) says what they mean.
+#[derive(Clone, Debug, Default, PartialEq, Eq)]
+pub struct ProgramWords {
+    /// Tag, x, y and dim of each node.
+    pub nodes: Vec<[u32; 4]>,
+    /// Constants of the base field.
+    pub base_consts: Vec<u64>,
+    /// Constants of the extension.
+    pub ext_consts: Vec<Ext>,
+    /// The node of each constraint.
+    pub roots: Vec<u32>,
+    /// Constraints below this number have base values.
     pub num_base: usize,
 }
 
-/// A program in lent words.
-#[derive(Clone, Copy, Debug)]
-pub struct Program<'a> {
-    pub counts: Counts,
-    /// Four words a node.
-    pub nodes: &'a [u32],
-    /// One word a constant.
-    pub base_consts: &'a [u64],
-    /// Three words a constant.
-    pub ext_consts: &'a [u64],
-    /// The node of each constraint.
-    pub roots: &'a [u32],
+/// A well-formed constraint program.
+#[derive(Clone, Debug, PartialEq, Eq)]
+pub struct Program {
+    words: ProgramWords,
 }
 
-/// How many of each thing a frame has.
-#[derive(Clone, Copy, Debug, Default, PartialEq, Eq)]
-pub struct Shape {
-    /// At most 256.
-    pub steps: usize,
-    /// At most 65,536, as the rest.
-    pub main_width: usize,
-    pub aux_width: usize,
-    pub challenges: usize,
-    pub alphas: usize,
+impl Program {
+    /// Checks the words and keeps them.
+    ///
+    /// # Errors
+    ///
+    /// [`Error::IllFormed`] with the lowest node at fault, else the lowest root; [`Error::TooManyNodes`] and
+    /// [`Error::TooManyRoots`] where a count is over its limit.
+    pub fn new(words: ProgramWords) -> Result<Self, Error> {
+        let program = Program { words };
+        lent::check_program(&program.lend())?;
+        Ok(program)
+    }
+
+    /// The program's words.
+    pub fn words(&self) -> &ProgramWords {
+        &self.words
+    }
+
+    /// The words themselves.
+    pub fn into_words(self) -> ProgramWords {
+        self.words
+    }
+
+    fn counts(&self) -> Counts {
+        let words = &self.words;
+        Counts {
+            nodes: words.nodes.len(),
+            base_consts: words.base_consts.len(),
+            ext_consts: words.ext_consts.len(),
+            roots: words.roots.len(),
+            num_base: words.num_base,
+        }
+    }
+
+    fn lend(&self) -> lent::Program<'_> {
+        let words = &self.words;
+        lent::Program {
+            counts: self.counts(),
+            nodes: words.nodes.as_flattened(),
+            base_consts: &words.base_consts,
+            ext_consts: words.ext_consts.as_flattened(),
+            roots: &words.roots,
+        }
+    }
+
+    /// An evaluator's room: four words a node.
+    fn room(&self) -> Vec<u64> {
+        vec![0; 4 * self.words.nodes.len()]
+    }
+
+    /// The columns that some node reads at a step past the first, ascending and each once. A column of the aux trace counts
+    /// from `main_width` on.
+    ///
+    /// # Errors
+    ///
+    /// [`Error::OverLimit`] where `main_width` is over 65,536.
+    pub fn next_row_trace_reads(&self, main_width: usize) -> Result<Vec<u32>, Error> {
+        let mut columns = vec![0; self.words.nodes.len()];
+        let count = lent::next_row_trace_reads(&self.lend(), main_width, &mut columns)?;
+        columns.truncate(count);
+        Ok(columns)
+    }
+
+    /// The prover's evaluator: every constraint's value at one row.
+    ///
+    /// # Errors
+    ///
+    /// [`Error::OverLimit`] and [`Error::ShortMemory`] of the frame; [`Error::OutsideFrame`] where it lacks a leaf, read or
+    /// not; [`Error::ExtensionRoot`] where a constraint below `num_base` has an extension value.
+    pub fn eval(&self, frame: &Frame) -> Result<Vec<Value>, Error> {
+        let mut evals = EvalRoom::new(self.words.num_base, self.words.roots.len());
+        let ext = evals.ext.as_flattened_mut();
+        lent::eval_program(&self.lend(), &frame.lend(), &mut evals.base, ext, &mut self.room())?;
+        Ok(evals.show().iter().collect())
+    }
+
+    /// The verifier's evaluator: main cells are extension values, and so is every constraint's value.
+    ///
+    /// # Errors
+    ///
+    /// Those of [`eval`](Program::eval) but for [`Error::ExtensionRoot`].
+    pub fn eval_verifier(&self, frame: &Frame<'_, Ext>) -> Result<Vec<Ext>, Error> {
+        let mut evals = vec![[0; 3]; self.words.roots.len()];
+        let words = evals.as_flattened_mut();
+        lent::eval_program_verifier(&self.lend(), &frame.lend_ext(), words, &mut self.room())?;
+        Ok(evals)
+    }
+
+    /// One constraint's value over one main row. The step of a main cell counts for nothing.
+    ///
+    /// # Errors
+    ///
+    /// [`Error::OverLimit`] where the row has over 65,536 cells; [`Error::NoSuchConstraint`]; [`Error::OutsideFrame`] where
+    /// some node is a main cell outside the row, an aux cell, a challenge, an alpha power or the table offset;
+    /// [`Error::ExtensionRoot`] where the constraint's value is an extension value.
+    pub fn eval_base(&self, constraint: usize, row: &[u64]) -> Result<u64, Error> {
+        let value = lent::eval_program_base(&self.lend(), row.len(), constraint, row, &mut self.room())?;
+        Ok(value)
+    }
+
+    /// The program as a blob.
+    ///
+    /// # Errors
+    ///
+    /// [`Error::ShortOutput`] where the stored form is over 4,294,967,295 words.
+    pub fn lower(&self) -> Result<Blob, Error> {
+        // The call on bytes lowers and writes the stored form at once. Its rooms are as long as the program's tables: a blob
+        // has no more nodes.
+        let words = &self.words;
+        let counts = self.counts();
+        let room = || Tables::new(counts.nodes, counts.base_consts, counts.ext_consts, counts.roots);
+        let [mut unpacked, mut lowered] = [room(), room()];
+        let mut file = vec![0; lowered.stored_len()];
+        let mut lists = vec![0; 6 * counts.nodes];
+        let program = ProgramBytes {
+            counts,
+            nodes: &bytes32(words.nodes.as_flattened()),
+            base_consts: &bytes64(&words.base_consts),
+            ext_consts: &bytes64(words.ext_consts.as_flattened()),
+            roots: &bytes32(&words.roots),
+        };
+        let lists = Lists::of(&mut lists, counts.nodes);
+        let length = bytes::lower_stored(&program, unpacked.lend_mut(), lists, lowered.lend_mut(), &mut file)?;
+        file.truncate(length);
+        Ok(Blob::of(file, lowered))
+    }
 }
 
-/// What the leaves of a program read, in lent words. Cells go by step, then by column.
-#[derive(Clone, Copy, Debug)]
-pub struct Frame<'a> {
-    pub shape: Shape,
-    /// One word a cell; in [`eval_program_verifier`] three.
-    pub main: &'a [u64],
-    /// Three words a cell.
-    pub aux: &'a [u64],
-    /// Three words each.
-    pub challenges: &'a [u64],
-    /// Three words each.
-    pub alphas: &'a [u64],
-    pub table_offset: [u64; 3],
+fn bytes32(words: &[u32]) -> Vec<u8> {
+    words.iter().flat_map(|word| word.to_le_bytes()).collect()
 }
 
-/// Calls the library on a program, with the call's own numbers and memory. A slice goes as pointer and length, so C's
-/// parameters are many: they stand here once for all calls.
-macro_rules! on_program {
-    ($call:ident, $program:expr, [$($number:expr),*], [$($memory:expr),*]) => {{
-        let program: &$crate::program::Program = $program;
-        let counts = program.counts;
-        $crate::calls::$call(
-            counts.nodes,
-            counts.base_consts,
-            counts.ext_consts,
-            counts.roots,
-            counts.num_base,
-            $($number,)*
-            program.nodes.as_ptr(),
-            program.nodes.len(),
-            program.base_consts.as_ptr(),
-            program.base_consts.len(),
-            program.ext_consts.as_ptr(),
-            program.ext_consts.len(),
-            program.roots.as_ptr(),
-            program.roots.len(),
-            $($memory,)*
-        )
-    }};
-}
-
-pub(crate) use on_program;
-
-/// Calls the library on a program and a frame, with the memory that the call writes.
-macro_rules! on_frame {
-    ($call:ident, $program:expr, $frame:expr, [$($written:expr),*]) => {{
-        let frame: &Frame = $frame;
-        let shape = frame.shape;
-        let [o0, o1, o2] = frame.table_offset;
-        on_program!(
-            $call,
-            $program,
-            [shape.steps, shape.main_width, shape.aux_width, shape.challenges, shape.alphas, o0, o1, o2],
-            [
-                frame.main.as_ptr(),
-                frame.main.len(),
-                frame.aux.as_ptr(),
-                frame.aux.len(),
-                frame.challenges.as_ptr(),
-                frame.challenges.len(),
-                frame.alphas.as_ptr(),
-                frame.alphas.len()
-                $(, $written)*
-            ]
-        )
-    }};
-}
-
-/// Whether the program is well-formed. Refusals: 8, 9, 1, 7.
-pub fn check_program(program: &Program) -> Result<(), Refusal> {
-    // SAFETY: the library reads inside the lent slices only and writes nothing. Each pointer and length are of one
-    // slice; counts that say more than the slices hold are refused.
-    done(unsafe { on_program!(cir_check_program, program, [], []) })
-}
-
-/// Writes the columns that some node reads at a step past the first into the beginning of `out`, ascending and each
-/// once, and returns how many they are. A column of the aux trace counts from `main_width` on, which is at most 65,536.
-/// Refusals: 8, 9, 2, 1, 7, 10.
-pub fn next_row_trace_reads(program: &Program, main_width: usize, out: &mut [u32]) -> Result<usize, Refusal> {
-    let mut count = 0;
-    next_row_trace_reads_into(program, main_width, out, &mut count)?;
-    Ok(count as usize)
-}
-
-/// As [`next_row_trace_reads`], with the word for the number of columns lent too, as the library has it.
-pub fn next_row_trace_reads_into(
-    program: &Program,
-    main_width: usize,
-    out: &mut [u32],
-    count: &mut u64,
-) -> Result<(), Refusal> {
-    // SAFETY: the library reads inside the lent slices only and writes inside `out` and `count` only, which nobody else
-    // holds meanwhile. Each pointer and length are of one slice; counts that say more than the slices hold are refused.
-    done(unsafe {
-        on_program!(
-            cir_next_row_trace_reads,
-            program,
-            [main_width],
-            [out.as_mut_ptr(), out.len(), count]
-        )
-    })
-}
-
-/// The prover's evaluator: writes constraint c below `num_base` to `base_evals[c]` and every other to
-/// `ext_evals[3 * c..3 * c + 3]`. No other word of the two changes.
-///
-/// `base_evals` needs as many words as the smaller of `num_base` and the root count, `ext_evals` three for every root
-/// if any is at or past `num_base`, else none. `room` needs four words a node, of any content, and is left with each
-/// node's value: its class (0 base, 1 extension), then three limbs.
-///
-/// Refusals: 8, 9, 2, 1, 14, 7, 13, 12.
-pub fn eval_program(
-    program: &Program,
-    frame: &Frame,
-    base_evals: &mut [u64],
-    ext_evals: &mut [u64],
-    room: &mut [u64],
-) -> Result<(), Refusal> {
-    // SAFETY: the library reads inside the lent slices only and writes inside the last three only, which nobody else
-    // holds meanwhile. Each pointer and length are of one slice; counts and a shape that say more than the slices hold
-    // are refused.
-    done(unsafe {
-        on_frame!(
-            cir_eval_program,
-            program,
-            frame,
-            [
-                base_evals.as_mut_ptr(),
-                base_evals.len(),
-                ext_evals.as_mut_ptr(),
-                ext_evals.len(),
-                room.as_mut_ptr(),
-                room.len()
-            ]
-        )
-    })
-}
-
-/// One constraint's value over one main row of `width` columns, which is at most 65,536. The step of a main cell counts
-/// for nothing. `room` is as in [`eval_program`]; the whole program is evaluated into it.
-///
-/// A main column at or past `width` and every other leaf of the frame is a refusal 13.
-///
-/// Refusals: 8, 9, 2, 1, 6, 7, 13, 12.
-pub fn eval_program_base(
-    program: &Program,
-    width: usize,
-    constraint: usize,
-    row: &[u64],
-    room: &mut [u64],
-) -> Result<u64, Refusal> {
-    let mut value = 0;
-    eval_program_base_into(program, width, constraint, row, room, &mut value)?;
-    Ok(value)
-}
-
-/// As [`eval_program_base`], with the word for the value lent too, as the library has it.
-pub fn eval_program_base_into(
-    program: &Program,
-    width: usize,
-    constraint: usize,
-    row: &[u64],
-    room: &mut [u64],
-    value: &mut u64,
-) -> Result<(), Refusal> {
-    // SAFETY: the library reads inside the lent slices only and writes inside `room` and `value` only, which nobody
-    // else holds meanwhile. Each pointer and length are of one slice; counts and a width that say more than the slices
-    // hold are refused.
-    done(unsafe {
-        on_program!(
-            cir_eval_program_base,
-            program,
-            [width, constraint],
-            [row.as_ptr(), row.len(), room.as_mut_ptr(), room.len(), value]
-        )
-    })
-}
-
-/// The verifier's evaluator: main cells have three words, and every constraint c is written to
-/// `ext_evals[3 * c..3 * c + 3]`, which needs three words for every root. `room` is as in [`eval_program`], with the
-/// class of each value, which is not always the node's dim: a main cell here is an extension value.
-///
-/// Refusals: 8, 9, 2, 1, 14, 7, 13.
-pub fn eval_program_verifier(
-    program: &Program,
-    frame: &Frame,
-    ext_evals: &mut [u64],
-    room: &mut [u64],
-) -> Result<(), Refusal> {
-    // SAFETY: the library reads inside the lent slices only and writes inside the last two only, which nobody else
-    // holds meanwhile. Each pointer and length are of one slice; counts and a shape that say more than the slices hold
-    // are refused.
-    done(unsafe {
-        on_frame!(
-            cir_eval_program_verifier,
-            program,
-            frame,
-            [ext_evals.as_mut_ptr(), ext_evals.len(), room.as_mut_ptr(), room.len()]
-        )
-    })
+fn bytes64(words: &[u64]) -> Vec<u8> {
+    words.iter().flat_map(|word| word.to_le_bytes()).collect()
 }

@@ -2,8 +2,8 @@
 
 use std::fmt::Arguments;
 
-use host::blob::{self as host_calls, Written};
-use host::program::Shape;
+use host::lent::blob::{self as host_calls, Written};
+use host::lent::program::Shape;
 
 use super::{BlobWords, Lengths};
 use crate::Score;

@@ -2,7 +2,7 @@
 
 use std::mem;
 
-use host::program::Shape;
+use host::lent::program::Shape;
 use stark::program_e;
 
 use super::BlobWords;

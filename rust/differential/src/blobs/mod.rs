@@ -7,7 +7,7 @@ pub mod lease;
 pub mod published;
 pub mod sample;
 
-use host::blob::{Blob, BlobCounts};
+use host::lent::blob::{Blob, BlobCounts};
 
 use crate::inputs::Random;
 

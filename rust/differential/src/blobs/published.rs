@@ -6,7 +6,7 @@ use super::BlobWords;
 use crate::Limbs;
 use crate::programs::Cells;
 use crate::programs::published::Published;
-use host::blob::BlobCounts;
+use host::lent::blob::BlobCounts;
 
 fn triples(words: &[u64]) -> Vec<Limbs> {
     let triples = words.chunks_exact(3);

@@ -18,8 +18,8 @@
 //! Where a call answers 0, 11 or 12, the bytes are 0 afterwards, one a slot. All else that is lent for writing stays as it
 //! was, and so does what is lent past the need.
 
-use host::blob::Written;
-use host::program::Shape;
+use host::lent::blob::Written;
+use host::lent::program::Shape;
 
 use super::damage::{BIT_31, SHAPE, every_tag};
 use super::lease::{Lease, NEEDS, OF_CHECK, OF_WALK};

@@ -2,8 +2,8 @@
 
 use std::fmt::Arguments;
 
-use host::blob::BlobCounts;
-use host::lower::{self as host_calls, Lists, Sizes, Tables};
+use host::lent::blob::BlobCounts;
+use host::lent::lower::{self as host_calls, Lists, Rooms, Sizes};
 
 use super::Lengths;
 use crate::Score;
@@ -42,7 +42,7 @@ macro_rules! lend {
                 slot_of: $memory.slot_of.$side(),
                 free_slots: $memory.free_slots.$side(),
             },
-            Tables {
+            Rooms {
                 nodes: $memory.nodes.$side(),
                 base_consts: $memory.base_consts.$side(),
                 ext_consts: $memory.ext_consts.$side(),

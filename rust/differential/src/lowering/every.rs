@@ -4,7 +4,7 @@ use stark::constraint_ir::{Expr, IrBuilder};
 
 use crate::programs::Words;
 use crate::programs::published::Published;
-use host::program::Counts;
+use host::lent::program::Counts;
 
 /// A call of the builder that asks for a node. Operands are numbers of handles: 0 is node 0, then come the calls' own.
 #[derive(Clone, Copy, Debug)]

@@ -15,7 +15,7 @@
 //! Where the answer is 0 or 10, the lists are 0 afterwards: a word a node, two of free_slots. All else that is lent for
 //! writing stays as it was, and so does what is lent past the need.
 
-use host::lower::{Lists, Sizes, Tables};
+use host::lent::lower::{Lists, Rooms, Sizes};
 use stark::program_e;
 
 use super::{Lease, NEEDS, OF_INPUT};
@@ -182,7 +182,7 @@ pub fn cases() -> Vec<Lease> {
     let mut programs = chosen();
     for nodes in 10..14 {
         let shape = small_shape(&mut random);
-        let counts = host::program::Counts {
+        let counts = host::lent::program::Counts {
             nodes,
             base_consts: 2,
             ext_consts: 1,
@@ -234,7 +234,7 @@ fn line(lease: &Lease) -> String {
     };
     let (mut nodes, mut roots) = (list(lengths.nodes), list(lengths.roots));
     let (mut base_consts, mut ext_consts) = (vec![0; lengths.base_consts], vec![0; lengths.ext_consts]);
-    let tables = Tables {
+    let tables = Rooms {
         nodes: &mut nodes,
         base_consts: &mut base_consts,
         ext_consts: &mut ext_consts,

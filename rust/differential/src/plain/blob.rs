@@ -7,8 +7,8 @@ use super::program::{Answer, frame_short, refuse_at_lowest, refuse_if, shape_fit
 use super::{ext_add, ext_mul, ext_neg, ext_sub};
 use crate::{Limbs, P};
 use host::Refusal;
-use host::blob::{Blob, BlobCounts, Written};
-use host::program::{Frame, Shape};
+use host::lent::blob::{Blob, BlobCounts, Written};
+use host::lent::program::{Frame, Shape};
 
 pub(super) const BIT_31: u32 = 1 << 31;
 

@@ -9,8 +9,8 @@ use super::program::Meaning::{
 };
 use super::program::{Answer, Node, counts_fit, program_short, refuse_if, roots, short, well_formed};
 use crate::P;
-use host::lower::{Lists, Sizes, Tables};
-use host::program::Program;
+use host::lent::lower::{Lists, Rooms, Sizes};
+use host::lent::program::Program;
 
 /// The nodes that a node reads, first and second.
 fn reads(node: &Node) -> Vec<usize> {
@@ -173,7 +173,7 @@ fn clear(n: usize, lists: Lists) {
     lists.free_slots[..2 * n].fill(0);
 }
 
-pub fn lower(program: &Program, lists: Lists, tables: Tables, sizes: &mut Sizes) -> Answer {
+pub fn lower(program: &Program, lists: Lists, tables: Rooms, sizes: &mut Sizes) -> Answer {
     let counts = &program.counts;
     counts_fit(program)?;
     refuse_if(1, program_short(program) || lists_short(counts.nodes, &lists))?;

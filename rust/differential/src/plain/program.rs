@@ -5,7 +5,7 @@
 use super::{ext_add, ext_mul, ext_neg, ext_sub};
 use crate::{Limbs, P};
 use host::Refusal;
-use host::program::{Frame, Program, Shape};
+use host::lent::program::{Frame, Program, Shape};
 
 pub(super) type Answer = Result<(), Refusal>;
 

@@ -1,6 +1,6 @@
 //! Random programs, made by random calls of the published builder.
 
-use host::program::Shape;
+use host::lent::program::Shape;
 use math::field::extensions_goldilocks::Degree3GoldilocksExtensionField as Ext;
 use math::field::goldilocks::GoldilocksField as Base;
 use stark::constraint_ir::{Expr, IrBuilder};

@@ -7,7 +7,8 @@
 use std::fmt::{Arguments, Debug};
 use std::hint::black_box;
 
-use host::{Refusal, program as host_calls};
+use host::Refusal;
+use host::lent::program as host_calls;
 
 use super::{Cells, Words};
 use crate::plain::program as plain_calls;

@@ -1,7 +1,7 @@
 //! Well-formed programs that no builder makes: words drawn at random, as freely as the rules let them. Equal nodes stand
 //! apart, constants are unused or equal to each other, and roots repeat.
 
-use host::program::{Counts, Shape};
+use host::lent::program::{Counts, Shape};
 
 use super::Words;
 use crate::P;

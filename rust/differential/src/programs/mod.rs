@@ -7,7 +7,7 @@ pub mod foreign;
 pub mod published;
 pub mod sample;
 
-use host::program::{Counts, Frame, Program, Shape};
+use host::lent::program::{Counts, Frame, Program, Shape};
 
 use crate::Limbs;
 use crate::inputs::Random;

@@ -14,7 +14,7 @@ use stark::traits::TransitionEvaluationContext;
 
 use super::{Cells, PROVER, VERIFIER, Words};
 use crate::Limbs;
-use host::program::Counts;
+use host::lent::program::Counts;
 
 type BaseElement = FieldElement<Base>;
 pub type ExtElement = FieldElement<Ext>;

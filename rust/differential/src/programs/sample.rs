@@ -23,7 +23,7 @@
 //! All memory is lent exactly as long as it has to be, and enough for
 //! every answer, so no answer is 1, 10 or 14.
 
-use host::program::{Counts, Shape};
+use host::lent::program::{Counts, Shape};
 use stark::constraint_ir::{Expr, IrBuilder};
 use stark::program_e;
 
