@@ -1,0 +1,103 @@
+-- Histories of calls from a fresh builder, and what is proved of them. The proofs are in proofs/Theorems.antt.
+-- Assumes nothing.
+use mathlib.Core.Bool.{false}
+use mathlib.Core.List.{List, [], _∷_}
+use mathlib.Core.Option.{none}
+use mathlib.Core.Path.{_≡_}
+use Prim.Native.Nat.{ℕ, _<_}
+use lib.Dec.{eqb}
+use lib.ListN.{length, getD, take}
+use Rattle.laws.specs.Folds.{allBelow}
+use Rattle.laws.specs.Lists.{tabulate}
+use Rattle.ir.specs.Program.{Program, tooManyNodes, tooManyRoots, shortProgram, illFormed, checked}
+use Rattle.ir.specs.Refusals.{Said, gives}
+use Rattle.ir.specs.Words.{Node}
+use Rattle.builder.specs.Gaps.{gapsOf}
+use Rattle.builder.specs.Hashing.{Start}
+use Rattle.builder.specs.Roots.{finished}
+use Rattle.builder.specs.Words.{view}
+use Rattle.built.specs.Draft.{Draft, Room, Call, told, freshDraft}
+use Rattle.built.specs.Memory.{Memory, answered, fresh, baseAt, extAt, roomOf, Stands}
+
+-- ---- calls over lent memory
+
+unfoldable pub answers : Start → Memory → List Call → List Said
+answers start m [] = []
+answers start m (c ∷ cs) = let a = answered start m c in a .said ∷ answers start (a .memory) cs
+
+unfoldable pub after : Start → Memory → List Call → Memory
+after start m [] = m
+after start m (c ∷ cs) = after start (answered start m c .memory) cs
+
+-- the memory that calls reach from a fresh builder
+abbrev pub reached : Start → Memory → List Call → Memory
+reached start m cs = after start (fresh start m .memory) cs
+
+-- ---- the same calls as the Rust has them
+
+unfoldable pub replies : Room → Draft → List Call → List Said
+replies r d [] = []
+replies r d (c ∷ cs) = let q = told r d c in q .said ∷ replies r (q .draft) cs
+
+unfoldable pub drafted : Room → Draft → List Call → Draft
+drafted r d [] = d
+drafted r d (c ∷ cs) = drafted r (told r d c .draft) cs
+
+-- ---- the statements
+
+-- a rule of where a lookup starts: at one of the places
+abbrev pub StartsInside : Start → Type 0
+StartsInside start = (k : ℕ) (w : Node) → 0 < k → start k w < k
+
+-- what holds of any history: any lent words, where `new` answers 0, and any calls
+abbrev pub OfHistories : (Start → Memory → List Call → Type 0) → Type 0
+OfHistories P = (start : Start) → StartsInside start → (m : Memory) → fresh start m .said .number ≡ 0 → (cs : List Call) → P start m cs
+
+-- 1. The builder is the Rust's
+pub record FollowsRust (start : Start) (m : Memory) (cs : List Call) : Type 0 where
+  -- a fresh builder's handle is node 0, which is base
+  pub begins : fresh start m .said ≡ gives (0 ∷ 0 ∷ [])
+  -- every answer is the one on the program
+  pub says : answers start (fresh start m .memory) cs ≡ replies (roomOf m) freshDraft cs
+  -- the memory stands for the program
+  pub stands : Stands (reached start m cs) (drafted (roomOf m) freshDraft cs)
+
+-- 2. Another rule of where a lookup starts changes no answer, no count, and no node, constant or root
+pub record SameAs (other : Start) (start : Start) (m : Memory) (cs : List Call) : Type 0 where
+  pub says : answers start (fresh start m .memory) cs ≡ answers other (fresh other m .memory) cs
+  pub builder : reached start m cs .builder ≡ reached other m cs .builder
+  pub nodes : view (reached start m cs .nodes) (reached start m cs .builder .nodes) ≡ view (reached other m cs .nodes) (reached other m cs .builder .nodes)
+  pub bases : tabulate (reached start m cs .builder .bases) (baseAt (reached start m cs .bases)) ≡ tabulate (reached other m cs .builder .bases) (baseAt (reached other m cs .bases))
+  pub exts : tabulate (reached start m cs .builder .exts) (extAt (reached start m cs .exts)) ≡ tabulate (reached other m cs .builder .exts) (extAt (reached other m cs .exts))
+  pub roots : take (reached start m cs .builder .roots) (reached start m cs .roots) ≡ take (reached other m cs .builder .roots) (reached other m cs .roots)
+
+-- 3. What `finish` hands on is well-formed, its counts are within the limits, and no table is short
+abbrev pub programOf : Memory → ℕ → Program
+programOf m base = record { counts = finished (m .builder) base; nodes = m .nodes; bases = m .bases; exts = m .exts; roots = m .roots }
+
+pub record WellBuilt (start : Start) (m : Memory) (cs : List Call) : Type 0 where
+  pub few : (base : ℕ) → tooManyNodes (programOf (reached start m cs) base .counts) ≡ false
+  pub long : (base : ℕ) → shortProgram (programOf (reached start m cs) base) ≡ false
+  pub formed : (base : ℕ) → illFormed (programOf (reached start m cs) base .counts) (reached start m cs .nodes) (reached start m cs .roots) ≡ none
+  -- so the program check lets it through
+  pub passes : (base : ℕ) → tooManyRoots (programOf (reached start m cs) base .counts) ≡ false → checked (programOf (reached start m cs) base) ≡ gives []
+
+-- 4. The gap report lists the constraints whose root on the program is node 0
+abbrev pub gapsIn : Draft → List ℕ
+gapsIn d = allBelow (λ c. eqb (getD (d .roots) c 0) 0) (length (d .roots))
+
+pub record GapsFound (start : Start) (m : Memory) (cs : List Call) : Type 0 where
+  pub gaps : gapsOf (reached start m cs .roots) (reached start m cs .builder .roots) ≡ gapsIn (drafted (roomOf m) freshDraft cs)
+
+-- the four of them
+abbrev pub BuilderFollowsRust : Type 0
+BuilderFollowsRust = OfHistories FollowsRust
+
+abbrev pub AnyHashWillDo : Type 0
+AnyHashWillDo = (other : Start) → StartsInside other → OfHistories (SameAs other)
+
+abbrev pub ProgramsAreWellFormed : Type 0
+ProgramsAreWellFormed = OfHistories WellBuilt
+
+abbrev pub GapsAreFound : Type 0
+GapsAreFound = OfHistories GapsFound

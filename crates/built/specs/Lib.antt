@@ -1,0 +1,4 @@
+-- The builder as the Rust has it, and histories of calls.
+pub mod Draft
+pub mod Memory
+pub mod History

@@ -1,0 +1,1 @@
+// The theorems over histories of builder calls. There is no code here.
