@@ -30,7 +30,7 @@ abbrev pub saidOfGaps : Gaps → Said
 saidOfGaps (Listed count) = gives (count ∷ [])
 saidOfGaps (Refused r) = saidOf r
 
--- roots shorter than their count k, then fewer than the gaps where `room` words are lent for them
+-- roots shorter than their count k, then a room of fewer words than there are gaps
 abbrev pub gapRows : List ℕ → ℕ → ℕ → List Row
 gapRows roots k room = row (ltb (length roots) k) 1 ∷ row (ltb room (length (gapsOf roots k))) 10 ∷ []
 
