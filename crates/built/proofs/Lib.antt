@@ -6,3 +6,4 @@ pub mod StepLaws
 pub mod FreshLaws
 pub mod FormedLaws
 pub mod Theorems
+pub mod ServesLaws

@@ -2,3 +2,4 @@
 pub mod Draft
 pub mod Memory
 pub mod History
+pub mod Serves
