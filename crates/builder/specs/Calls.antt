@@ -1,6 +1,6 @@
 -- The calls that touch nodes and places alone, over any lent words and any rule of where a lookup starts.
 -- Assumes nothing.
-use mathlib.Core.Bool.{Bool, true, false, cond}
+use mathlib.Core.Bool.{Bool, true, false, cond, _||_}
 use mathlib.Core.List.{List, [], _∷_}
 use Prim.Native.Nat.{ℕ}
 use lib.Dec.{ltb}
@@ -26,10 +26,27 @@ indexRow i = row (ltb 65535 i) 2
 abbrev pub handleRow : Table → Expr → Row
 handleRow t e = row (strangerB (t .nodes) (t .count) e) 3
 
+-- of either operand
+abbrev pub handlesRow : Table → Expr → Expr → Row
+handlesRow t a b = row (strangerB (t .nodes) (t .count) a || strangerB (t .nodes) (t .count) b) 3
+
+-- those of each call, before 4
+abbrev pub indexedRows : Table → ℕ → List Row
+indexedRows t i = shortRow t ∷ indexRow i ∷ []
+
+abbrev pub offsetRows : Table → List Row
+offsetRows t = shortRow t ∷ []
+
+abbrev pub binaryRows : Table → Expr → Expr → List Row
+binaryRows t a b = shortRow t ∷ handlesRow t a b ∷ []
+
+abbrev pub unaryRows : Table → Expr → List Row
+unaryRows t a = shortRow t ∷ handleRow t a ∷ []
+
 -- ---- leaves
 
 unfoldable pub uniformOf : Start → ℕ → Table → ℕ → Built
-uniformOf start tag t i = made start (shortRow t ∷ indexRow i ∷ []) t (node tag i 0 1)
+uniformOf start tag t i = made start (indexedRows t i) t (node tag i 0 1)
 
 abbrev pub challengeOf : Start → Table → ℕ → Built
 challengeOf start t i = uniformOf start rapChallenge t i
@@ -38,7 +55,7 @@ abbrev pub alphaPowerOf : Start → Table → ℕ → Built
 alphaPowerOf start t i = uniformOf start alphaPow t i
 
 unfoldable pub tableOffsetOf : Start → Table → Built
-tableOffsetOf start t = made start (shortRow t ∷ []) t (node tableOffset 0 0 1)
+tableOffsetOf start t = made start (offsetRows t) t (node tableOffset 0 0 1)
 
 -- a cell of the main trace, which is base, or of the aux trace
 abbrev pub cellNode : Bool → ℕ → ℕ → Node
@@ -47,7 +64,7 @@ cellNode main offset col =
     node var (w .a) (w .b) (cond main 0 1)
 
 unfoldable pub cellOf : Start → Bool → Table → ℕ → ℕ → Built
-cellOf start main t offset col = made start (shortRow t ∷ indexRow col ∷ []) t (cellNode main offset col)
+cellOf start main t offset col = made start (indexedRows t col) t (cellNode main offset col)
 
 abbrev pub mainCellOf : Start → Table → ℕ → ℕ → Built
 mainCellOf start t offset col = cellOf start true t offset col
@@ -59,7 +76,7 @@ auxCellOf start t offset col = cellOf start false t offset col
 
 unfoldable pub binaryOf : Start → ℕ → Table → Expr → Expr → Built
 binaryOf start tag t a b =
-    made start (shortRow t ∷ handleRow t a ∷ handleRow t b ∷ []) t (node tag (a .id) (b .id) (joined (a .dim) (b .dim)))
+    made start (binaryRows t a b) t (node tag (a .id) (b .id) (joined (a .dim) (b .dim)))
 
 abbrev pub addOf : Start → Table → Expr → Expr → Built
 addOf start t a b = binaryOf start add t a b
@@ -71,7 +88,7 @@ abbrev pub mulOf : Start → Table → Expr → Expr → Built
 mulOf start t a b = binaryOf start mul t a b
 
 unfoldable pub unaryOf : Start → ℕ → ℕ → Table → Expr → Built
-unaryOf start tag dim t a = made start (shortRow t ∷ handleRow t a ∷ []) t (node tag (a .id) 0 dim)
+unaryOf start tag dim t a = made start (unaryRows t a) t (node tag (a .id) 0 dim)
 
 -- it keeps its operand's dim
 abbrev pub negOf : Start → Table → Expr → Built

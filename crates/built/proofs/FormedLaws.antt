@@ -244,8 +244,10 @@ module _ (r : Room) (d : Draft) (s : Sane d) where
 
   binary-sane : (tag : ℕ) → 6 ≤ tag → tag < 9 → (a b : Expr) → Sane (binary r tag d a b .draft)
   binary-sane tag h k a b =
-      made-sane (strangerRow d a ∷ strangerRow d b ∷ []) _
-      λ q. next-binary _ _ (d .nodes) tag h k a b (or-left (stranger (d .nodes) a) _ q) (or-left (stranger (d .nodes) b) false (or-right (stranger (d .nodes) a) _ q))
+      let x = stranger (d .nodes) a in
+      let y = stranger (d .nodes) b in
+      made-sane (row (x || y) 3 ∷ []) _
+      λ q. let n = or-left (x || y) false q in next-binary _ _ (d .nodes) tag h k a b (or-left x y n) (or-right x y n)
 
   emit-sane : (c : ℕ) (e : Expr) → Sane (emission r d c e .draft)
   emit-sane c e =

@@ -159,7 +159,7 @@ module _ (start : Start) (m : Memory) (d : Draft) (h : Holds start m d) where
 
   binary-step : (tag : ℕ) (a b : Expr) → Step start m (withTable m (binaryOf start tag t a b)) (binary r tag d a b)
   unfolding binaryOf
-  binary-step tag a b = rw (strangers start t (d .nodes) (h .nodes) a, strangers start t (d .nodes) (h .nodes) b) (made-step (node tag (a .id) (b .id) (joined (a .dim) (b .dim))) (strangerRow d a ∷ strangerRow d b ∷ []))
+  binary-step tag a b = rw (strangers start t (d .nodes) (h .nodes) a, strangers start t (d .nodes) (h .nodes) b) (made-step (node tag (a .id) (b .id) (joined (a .dim) (b .dim))) (row (stranger (d .nodes) a || stranger (d .nodes) b) 3 ∷ []))
 
   unary-step : (tag dim : ℕ) (a : Expr) → Step start m (withTable m (unaryOf start tag dim t a)) (making r (strangerRow d a ∷ []) d (node tag (a .id) 0 dim))
   unfolding unaryOf

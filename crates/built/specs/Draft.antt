@@ -77,8 +77,9 @@ making r rows d w =
       draft = cond (anyHolds rows) d (withList d (o .list));
     }
 
+-- Add, Sub, Mul
 abbrev pub binary : Room → ℕ → Draft → Expr → Expr → Told
-binary r tag d a b = making r (strangerRow d a ∷ strangerRow d b ∷ []) d (node tag (a .id) (b .id) (joined (a .dim) (b .dim)))
+binary r tag d a b = making r (row (stranger (d .nodes) a || stranger (d .nodes) b) 3 ∷ []) d (node tag (a .id) (b .id) (joined (a .dim) (b .dim)))
 
 -- ---- constants
 
