@@ -7,3 +7,4 @@ pub mod FreshLaws
 pub mod FormedLaws
 pub mod Theorems
 pub mod ServesLaws
+pub mod RunLaws

@@ -26,7 +26,7 @@ use Rattle.builder.specs.Calls.{shortRow, indexRow, cellNode, uniformOf, tableO
 use Rattle.builder.specs.Roots.{emitOf}
 use Rattle.builder.specs.Consts.{positionOf, extPositionOf, withBase, withExt}
 use Rattle.built.specs.Draft.{Draft, Room, Told, Call, main, aux, challenge, alphaPower, tableOffset, constBase, constExt, add, sub, mul, neg, embed, emit, withList, stranger, strangerRow, making, binary, limbsOf, sameLimbs, indexOf, told}
-use Rattle.built.specs.Memory.{Memory, tableOf, Answered, withTable, answered, baseAt, extAt, baseRoom, extRoom, roomOf, Stands}
+use Rattle.built.specs.Memory.{Memory, tableOf, Answered, withTable, answered, baseAt, extAt, baseRoom, extRoom, draftOf, roomOf, Stands}
 use Rattle.built.proofs.NodeLaws.{Nodes, pushed-id, maybe-nodes, maybe-room, not-short, strangers}
 use Rattle.built.proofs.ConstantLaws.{whole-scan, Held, Writes, const-shares}
 use Rattle.built.proofs.RootLaws.{Roots, maybe-roots, maybe-long}
@@ -38,18 +38,12 @@ pub record Holds (start : Start) (m : Memory) (d : Draft) : Type 0 where
   pub exts : Held extAt extRoom (m .exts) (m .builder .exts) (d .exts)
   pub roots : Roots (m .roots) (m .builder .roots) (d .roots)
 
+pub holds-program : (start : Start) (m : Memory) (d : Draft) → Holds start m d → draftOf m ≡ d
+holds-program start m d h = λ i. record { nodes = h .nodes .list i; bases = h .bases .values i; exts = h .exts .values i; roots = h .roots .list i }
+
 pub holds-stands : (start : Start) (m : Memory) (d : Draft) → Holds start m d → Stands m d
 holds-stands start m d h =
-    record {
-      nodes = h .nodes .list;
-      bases = h .bases .values;
-      exts = h .exts .values;
-      roots = h .roots .list;
-      nodes-fit = h .nodes .few;
-      bases-fit = h .bases .few;
-      exts-fit = h .exts .few;
-      roots-fit = h .roots .few;
-    }
+    record { program = holds-program start m d h; nodes-fit = h .nodes .few; bases-fit = h .bases .few; exts-fit = h .exts .few; roots-fit = h .roots .few }
 
 -- a call over memory m, and a call on a program
 pub record Step (start : Start) (m : Memory) (a : Answered) (q : Told) : Type 0 where

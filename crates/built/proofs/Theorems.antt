@@ -23,7 +23,7 @@ use Rattle.built.specs.Memory.{Memory, answered, fresh, baseAt, extAt, b
 use Rattle.built.specs.History.{answers, after, replies, drafted, StartsInside, programOf, gapsIn, BuilderFollowsRust, AnyHashWillDo, ProgramsAreWellFormed, GapsAreFound}
 use Rattle.built.proofs.NodeLaws.{nodes-many, node-of}
 use Rattle.built.proofs.ConstantLaws.{consts-many}
-use Rattle.built.proofs.StepLaws.{Holds, holds-stands, Step, step}
+use Rattle.built.proofs.StepLaws.{Holds, holds-program, holds-stands, Step, step}
 use Rattle.built.proofs.FormedLaws.{Reads, Sane, fresh-sane, told-sane}
 use Rattle.built.proofs.FreshLaws.{begun}
 
@@ -128,10 +128,7 @@ any-hash-will-do other low′ start low m e cs =
     record {
       says = h .says ∙ sym (g .says);
       builder = counted start _ _ s ∙ sym (counted other _ _ t);
-      nodes = s .nodes .list ∙ sym (t .nodes .list);
-      bases = s .bases .values ∙ sym (t .bases .values);
-      exts = s .exts .values ∙ sym (t .exts .values);
-      roots = s .roots .list ∙ sym (t .roots .list);
+      program = holds-program start _ _ s ∙ sym (holds-program other _ _ t);
     }
 
 pub programs-are-well-formed : ProgramsAreWellFormed

@@ -6,18 +6,16 @@ use mathlib.Core.Option.{none}
 use mathlib.Core.Path.{_≡_}
 use Prim.Native.Nat.{ℕ, _<_}
 use lib.Dec.{eqb}
-use lib.ListN.{length, getD, take}
+use lib.ListN.{length, getD}
 use Rattle.laws.specs.Folds.{allBelow}
-use Rattle.laws.specs.Lists.{tabulate}
 use Rattle.ir.specs.Program.{Program, tooManyNodes, tooManyRoots, shortProgram, illFormed, checked}
 use Rattle.ir.specs.Refusals.{Said, gives}
 use Rattle.ir.specs.Words.{Node}
 use Rattle.builder.specs.Gaps.{gapsOf}
 use Rattle.builder.specs.Hashing.{Start}
 use Rattle.builder.specs.Roots.{finished}
-use Rattle.builder.specs.Words.{view}
 use Rattle.built.specs.Draft.{Draft, Room, Call, told, freshDraft}
-use Rattle.built.specs.Memory.{Memory, answered, fresh, baseAt, extAt, roomOf, Stands}
+use Rattle.built.specs.Memory.{Memory, answered, fresh, draftOf, roomOf, Stands}
 
 -- ---- calls over lent memory
 
@@ -66,10 +64,7 @@ pub record FollowsRust (start : Start) (m : Memory) (cs : List Call) : Type 0 wh
 pub record SameAs (other : Start) (start : Start) (m : Memory) (cs : List Call) : Type 0 where
   pub says : answers start (fresh start m .memory) cs ≡ answers other (fresh other m .memory) cs
   pub builder : reached start m cs .builder ≡ reached other m cs .builder
-  pub nodes : view (reached start m cs .nodes) (reached start m cs .builder .nodes) ≡ view (reached other m cs .nodes) (reached other m cs .builder .nodes)
-  pub bases : tabulate (reached start m cs .builder .bases) (baseAt (reached start m cs .bases)) ≡ tabulate (reached other m cs .builder .bases) (baseAt (reached other m cs .bases))
-  pub exts : tabulate (reached start m cs .builder .exts) (extAt (reached start m cs .exts)) ≡ tabulate (reached other m cs .builder .exts) (extAt (reached other m cs .exts))
-  pub roots : take (reached start m cs .builder .roots) (reached start m cs .roots) ≡ take (reached other m cs .builder .roots) (reached other m cs .roots)
+  pub program : draftOf (reached start m cs) ≡ draftOf (reached other m cs)
 
 -- 3. What `finish` hands on is well-formed, its counts are within the limits, and no table is short
 abbrev pub programOf : Memory → ℕ → Program

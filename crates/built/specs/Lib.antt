@@ -3,3 +3,5 @@ pub mod Draft
 pub mod Memory
 pub mod History
 pub mod Serves
+pub mod Runs
+pub mod ExampleE

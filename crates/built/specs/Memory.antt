@@ -92,6 +92,16 @@ baseAt bs j = getD bs j 0 % p
 abbrev pub extAt : List ℕ → ℕ → List ℕ
 extAt xs j = (getD xs (3 * j) 0 % p) ∷ (getD xs (3 * j + 1) 0 % p) ∷ (getD xs (3 * j + 2) 0 % p) ∷ []
 
+-- the program that the counted words are
+abbrev pub draftOf : Memory → Draft
+draftOf m =
+    record {
+      nodes = view (m .nodes) (m .builder .nodes);
+      bases = tabulate (m .builder .bases) (baseAt (m .bases));
+      exts = tabulate (m .builder .exts) (extAt (m .exts));
+      roots = take (m .builder .roots) (m .roots);
+    }
+
 -- how many base constants fit, and extension constants
 abbrev pub baseRoom : List ℕ → ℕ
 baseRoom bs = min (length bs) most
@@ -103,12 +113,9 @@ extRoom xs = min (length xs / 3) most
 abbrev pub roomOf : Memory → Room
 roomOf m = record { nodes = room (tableOf m); bases = baseRoom (m .bases); exts = extRoom (m .exts); roots = length (m .roots) }
 
--- the words that are counted are the program's, and the counts are within the room
+-- the counted words are the program, and the counts are within the room
 pub record Stands (m : Memory) (d : Draft) : Type 0 where
-  pub nodes : view (m .nodes) (m .builder .nodes) ≡ d .nodes
-  pub bases : tabulate (m .builder .bases) (baseAt (m .bases)) ≡ d .bases
-  pub exts : tabulate (m .builder .exts) (extAt (m .exts)) ≡ d .exts
-  pub roots : take (m .builder .roots) (m .roots) ≡ d .roots
+  pub program : draftOf m ≡ d
   pub nodes-fit : m .builder .nodes ≤ roomOf m .nodes
   pub bases-fit : m .builder .bases ≤ roomOf m .bases
   pub exts-fit : m .builder .exts ≤ roomOf m .exts
