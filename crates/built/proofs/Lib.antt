@@ -8,3 +8,4 @@ pub mod FormedLaws
 pub mod Theorems
 pub mod ServesLaws
 pub mod RunLaws
+pub mod RoomLaws

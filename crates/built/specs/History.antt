@@ -1,10 +1,10 @@
 -- Histories of calls from a fresh builder, and what is proved of them. The proofs are in proofs/Theorems.antt.
 -- Assumes nothing.
-use mathlib.Core.Bool.{false}
+use mathlib.Core.Bool.{Bool, true, false, _&&_}
 use mathlib.Core.List.{List, [], _∷_}
 use mathlib.Core.Option.{none}
 use mathlib.Core.Path.{_≡_}
-use Prim.Native.Nat.{ℕ, _<_}
+use Prim.Native.Nat.{ℕ, _<_, _≤_}
 use lib.Dec.{eqb}
 use lib.ListN.{length, getD}
 use Rattle.laws.specs.Folds.{allBelow}
@@ -84,7 +84,23 @@ gapsIn d = allBelow (λ c. eqb (getD (d .roots) c 0) 0) (length (d .roots))
 pub record GapsFound (start : Start) (m : Memory) (cs : List Call) : Type 0 where
   pub gaps : gapsOf (reached start m cs .roots) (reached start m cs .builder .roots) ≡ gapsIn (drafted (roomOf m) freshDraft cs)
 
--- the four of them
+-- 5. Where every answer is 0 a wider room changes none, and not the program: so it is the Rust, whose tables grow
+abbrev pub allDone : List Said → Bool
+allDone [] = true
+allDone (s ∷ ss) = eqb (s .number) 0 && allDone ss
+
+pub record Wider (r big : Room) : Type 0 where
+  pub nodes : r .nodes ≤ big .nodes
+  pub bases : r .bases ≤ big .bases
+  pub exts : r .exts ≤ big .exts
+  pub roots : r .roots ≤ big .roots
+
+abbrev pub RoomDoesNotMatter : Type 0
+RoomDoesNotMatter =
+    (r big : Room) → Wider r big → (d : Draft) (cs : List Call) → allDone (replies r d cs) ≡ true
+    → (replies big d cs ≡ replies r d cs) × (drafted big d cs ≡ drafted r d cs)
+
+-- the first four, of histories
 abbrev pub BuilderFollowsRust : Type 0
 BuilderFollowsRust = OfHistories FollowsRust
 
