@@ -88,23 +88,25 @@ impl Score {
         self.answers[number]
     }
 
+    /// Each number that was answered and how often.
+    pub fn answers(&self) -> String {
+        let answers: Vec<String> = (0..16)
+            .filter(|number| self.answers[*number] != 0)
+            .map(|number| format!("{number}: {}", self.answers[number]))
+            .collect();
+        answers.join(", ")
+    }
+
     /// Says what was compared; each of `numbers` has to have been answered, and no other.
     #[track_caller]
     pub fn finish(self, numbers: &[usize]) {
         let Score {
             test, agreed, words, ..
         } = self;
-        let answers: Vec<String> = (0..16)
-            .filter(|number| self.answers[*number] != 0)
-            .map(|number| format!("{number}: {}", self.answers[number]))
-            .collect();
         if agreed != 0 {
             println!("{test}: {agreed} agree with the published Rust");
         }
-        println!(
-            "{test}: {words} words compared; answers by number {}",
-            answers.join(", ")
-        );
+        println!("{test}: {words} words compared; answers by number {}", self.answers());
         for number in 0..16 {
             assert_eq!(
                 self.answers[number] != 0,

@@ -5,13 +5,12 @@
 
 #![forbid(unsafe_code)]
 
-use std::fmt::Arguments;
-
 use differential::inputs::Random;
-use differential::programs::build::{Recipe, build};
 use differential::programs::compare::{self, Answer, Asked, Lengths};
+use differential::programs::lease::Call::{self, Base, Prover, Reads, Verifier};
+use differential::programs::lease::{Lease, ORDERS, any, main_words, needs_of};
 use differential::programs::published::{self, ext_element};
-use differential::programs::{Cells, PROVER, VERIFIER, Words, foreign, small_shape};
+use differential::programs::{Cells, Words};
 use differential::{P, Score};
 use host::Refusal;
 use host::lent::program::{Counts, Shape};
@@ -20,165 +19,6 @@ use stark::constraint_ir::IrBuilder;
 /// So many where the build is optimised, else a few of them.
 const fn many(cases: usize) -> usize {
     if cfg!(debug_assertions) { cases / 10 } else { cases }
-}
-
-#[derive(Clone, Copy, Debug, PartialEq, Eq)]
-enum Call {
-    Check,
-    Reads,
-    Prover,
-    Base,
-    Verifier,
-}
-
-use Call::{Base, Check, Prover, Reads, Verifier};
-
-/// Each call's refusals, in the order in which it takes them.
-const ORDERS: [(Call, &[u8]); 5] = [
-    (Check, &[8, 9, 1, 7]),
-    (Reads, &[8, 9, 2, 1, 7, 10]),
-    (Prover, &[8, 9, 2, 1, 14, 7, 13, 12]),
-    (Base, &[8, 9, 2, 1, 6, 7, 13, 12]),
-    (Verifier, &[8, 9, 2, 1, 14, 7, 13]),
-];
-
-/// All that a call is lent and told. A call uses its part of it.
-#[derive(Clone)]
-struct Lease {
-    words: Words,
-    cells: Cells,
-    lengths: Lengths,
-    /// Of the base row, and the main width that next-row reads are told.
-    width: usize,
-    constraint: usize,
-    row: Vec<u64>,
-    /// Words for the columns of next-row reads.
-    out: usize,
-}
-
-impl Lease {
-    /// Everything exactly as long as the call needs it. The program is well-formed.
-    fn new(call: Call, words: Words, cells: Cells, row: Vec<u64>) -> Self {
-        let mut lease = Lease {
-            lengths: Lengths::prover(&words),
-            width: row.len(),
-            constraint: 0,
-            out: 0,
-            words,
-            cells,
-            row,
-        };
-        lease.fit(call);
-        lease
-    }
-
-    /// Makes everything exactly as long as counts, shape and width need it, where it was not shorter.
-    fn fit(&mut self, call: Call) {
-        let shape = &self.cells.shape;
-        self.cells
-            .main
-            .truncate(main_words(call) * shape.steps * shape.main_width);
-        self.cells.aux.truncate(3 * shape.steps * shape.aux_width);
-        self.cells.challenges.truncate(3 * shape.challenges);
-        self.cells.alphas.truncate(3 * shape.alphas);
-        self.row.truncate(self.width);
-        self.lengths = match call {
-            Verifier => Lengths::verifier(&self.words),
-            _ => Lengths::prover(&self.words),
-        };
-        self.out = published::program(&self.words).next_row_trace_reads(self.width).len();
-    }
-
-    fn run(&self, score: &mut Score, call: Call, what: Arguments<'_>) -> Answer {
-        match call {
-            Check => compare::check_program(score, &self.words, what),
-            Reads => compare::next_row_trace_reads(score, &self.words, self.width, self.out, what).answer,
-            Prover => compare::eval_program(score, &self.words, &self.cells, self.lengths, what).answer,
-            Verifier => compare::eval_program_verifier(score, &self.words, &self.cells, self.lengths, what).answer,
-            Base => {
-                let asked = Asked {
-                    width: self.width,
-                    constraint: self.constraint,
-                    row: &self.row,
-                };
-                compare::eval_program_base(score, &self.words, asked, self.lengths.room, what).answer
-            }
-        }
-    }
-}
-
-/// Where a length of a lease stands.
-enum Len<'a> {
-    Words(&'a mut Vec<u32>),
-    Wide(&'a mut Vec<u64>),
-    Number(&'a mut usize),
-}
-
-impl Len<'_> {
-    fn get(&self) -> usize {
-        match self {
-            Len::Words(table) => table.len(),
-            Len::Wide(table) => table.len(),
-            Len::Number(len) => **len,
-        }
-    }
-
-    fn set(self, len: usize) {
-        match self {
-            Len::Words(table) => table.resize(len, 0),
-            Len::Wide(table) => table.resize(len, 0),
-            Len::Number(number) => *number = len,
-        }
-    }
-}
-
-struct Need {
-    name: &'static str,
-    /// Given when it is too short.
-    number: u8,
-    len: fn(&mut Lease) -> Len<'_>,
-}
-
-impl Need {
-    fn new(name: &'static str, number: u8, len: fn(&mut Lease) -> Len<'_>) -> Self {
-        Need { name, number, len }
-    }
-}
-
-/// Each length that the call has a need of, with the number that a shorter one gives.
-fn needs_of(call: Call) -> Vec<Need> {
-    let mut needs = vec![
-        Need::new("nodes", 1, |lease| Len::Words(&mut lease.words.nodes)),
-        Need::new("base_consts", 1, |lease| Len::Wide(&mut lease.words.base_consts)),
-        Need::new("ext_consts", 1, |lease| Len::Wide(&mut lease.words.ext_consts)),
-        Need::new("roots", 1, |lease| Len::Words(&mut lease.words.roots)),
-    ];
-    if call == Prover || call == Verifier {
-        needs.extend([
-            Need::new("main", 1, |lease| Len::Wide(&mut lease.cells.main)),
-            Need::new("aux", 1, |lease| Len::Wide(&mut lease.cells.aux)),
-            Need::new("challenges", 1, |lease| Len::Wide(&mut lease.cells.challenges)),
-            Need::new("alphas", 1, |lease| Len::Wide(&mut lease.cells.alphas)),
-            Need::new("ext_evals", 14, |lease| Len::Number(&mut lease.lengths.ext_evals)),
-        ]);
-    }
-    match call {
-        Check => {}
-        Reads => needs.push(Need::new("out", 10, |lease| Len::Number(&mut lease.out))),
-        Base => needs.push(Need::new("row", 1, |lease| Len::Wide(&mut lease.row))),
-        Prover => needs.push(Need::new("base_evals", 14, |lease| {
-            Len::Number(&mut lease.lengths.base_evals)
-        })),
-        Verifier => {}
-    }
-    if call != Check && call != Reads {
-        needs.push(Need::new("room", 1, |lease| Len::Number(&mut lease.lengths.room)));
-    }
-    needs
-}
-
-fn main_words(call: Call) -> usize {
-    if call == Verifier { VERIFIER } else { PROVER }
 }
 
 fn refused(number: u8, place: usize) -> Answer {
@@ -365,30 +205,6 @@ fn order() {
         }
     }
     score.finish(&[0, 1, 2, 6, 7, 8, 9, 10, 12, 13, 14]);
-}
-
-/// A random well-formed program, built or foreign, and frames around it that mostly hold its leaves.
-fn any(random: &mut Random, call: Call) -> Lease {
-    let shape = small_shape(random);
-    let words = if random.once_in(2) {
-        let recipe = Recipe {
-            calls: random.below(30),
-            shape,
-            row_only: call == Base || random.once_in(3),
-            constraints: random.pick(&[1, 3, 6]),
-        };
-        let mut program = build(random, &recipe);
-        program.num_base = published::words(&program).fitting_num_base(random);
-        published::words(&program)
-    } else {
-        let counts = foreign::small_counts(random, 20);
-        foreign::well_formed(random, counts, &shape, 100)
-    };
-    let cells = Cells::random(random, shape, main_words(call));
-    let row = random.words(shape.main_width);
-    let mut lease = Lease::new(call, words, cells, row);
-    lease.constraint = random.below(lease.words.counts.roots.max(1));
-    lease
 }
 
 /// Each need of each call exact, one word short and at zero, all others exact.
@@ -594,29 +410,7 @@ fn damaged_programs() {
     for i in 0..many(60_000) {
         for (call, _) in ORDERS {
             let mut lease = any(&mut random, call);
-            let words = &mut lease.words;
-            if words.nodes.is_empty() {
-                continue;
-            }
-            let word = if words.roots.is_empty() || !random.once_in(5) {
-                // Few programs would fail at their first nodes otherwise.
-                let len = words.nodes.len();
-                let at = random.below(len);
-                &mut words.nodes[if random.once_in(4) { at % 8 } else { at }]
-            } else {
-                let len = words.roots.len();
-                &mut words.roots[random.below(len)]
-            };
-            *word = match random.below(6) {
-                0 => *word ^ 1 << random.below(32),
-                1 => word.wrapping_add(1),
-                2 => word.wrapping_sub(1),
-                3 => random.below(16) as u32,
-                4 => random.pick(&[255, 256, 65_535, 65_536, 65_792, 1 << 17, u32::MAX]),
-                _ => random.uniform() as u32,
-            };
-            // A column more or less to read, so there is room for one more.
-            lease.out += 1;
+            lease.change_word(&mut random);
             let _ = lease.run(&mut score, call, format_args!("program {i} of seed {SEED:#x}"));
         }
     }
@@ -629,45 +423,10 @@ fn damaged_leases() {
     const SEED: u64 = 0x6C65_6173;
     let mut random = Random::new(SEED);
     let mut score = Score::new("leases with several things changed");
-    let little = |random: &mut Random, value: &mut usize| {
-        *value = match random.below(8) {
-            0 => 0,
-            1 => value.wrapping_add(1),
-            2 => value.wrapping_add(random.below(8)),
-            3 => *value / 2,
-            4 | 5 => value.saturating_sub(1),
-            6 => random.pick(&[255, 256, 257, 65_535, 65_536, 65_537, 536_870_911, 536_870_912]),
-            _ => random.pick(&[4_294_967_295, 4_294_967_296, 1 << 61, 1 << 62, 1 << 63, usize::MAX]),
-        };
-    };
     for i in 0..many(60_000) {
         for (call, _) in ORDERS {
             let mut lease = any(&mut random, call);
-            for _ in 0..1 + random.below(3) {
-                let counts = &mut lease.words.counts;
-                let shape = &mut lease.cells.shape;
-                match random.below(18) {
-                    0 => little(&mut random, &mut counts.nodes),
-                    1 => little(&mut random, &mut counts.base_consts),
-                    2 => little(&mut random, &mut counts.ext_consts),
-                    3 => little(&mut random, &mut counts.roots),
-                    4 => little(&mut random, &mut counts.num_base),
-                    5 => little(&mut random, &mut shape.steps),
-                    6 => little(&mut random, &mut shape.main_width),
-                    7 => little(&mut random, &mut shape.aux_width),
-                    8 => little(&mut random, &mut shape.challenges),
-                    9 => little(&mut random, &mut shape.alphas),
-                    10 => little(&mut random, &mut lease.width),
-                    11 => little(&mut random, &mut lease.constraint),
-                    12 => lease.out = lease.out.saturating_sub(1),
-                    _ => {
-                        let needs = needs_of(call);
-                        let len = (needs[random.below(needs.len())].len)(&mut lease);
-                        let longer = len.get() + random.below(3);
-                        len.set(longer.saturating_sub(random.below(3)));
-                    }
-                }
-            }
+            lease.change_some(&mut random, call);
             let _ = lease.run(&mut score, call, format_args!("program {i} of seed {SEED:#x}"));
         }
     }

@@ -86,6 +86,15 @@ impl BlobWords {
             self.roots.push(random.uniform() as u32);
         }
     }
+
+    /// The same in allocations of exactly its lengths.
+    pub fn exact(mut self) -> Self {
+        self.nodes.shrink_to_fit();
+        self.base_consts.shrink_to_fit();
+        self.ext_consts.shrink_to_fit();
+        self.roots.shrink_to_fit();
+        self
+    }
 }
 
 /// How many words and bytes a walk is lent for writing.

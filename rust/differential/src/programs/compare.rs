@@ -17,7 +17,7 @@ use crate::{P, Score};
 pub type Answer = Result<(), Refusal>;
 
 /// Words kept on either side of what is lent for writing.
-pub(crate) const GUARD: usize = 4;
+pub(crate) const GUARD: usize = if cfg!(feature = "exact") { 0 } else { 4 };
 
 /// Memory lent for writing, once for each side.
 pub(crate) struct Lent<T> {

@@ -4,6 +4,7 @@ pub mod agree;
 pub mod build;
 pub mod compare;
 pub mod foreign;
+pub mod lease;
 pub mod published;
 pub mod sample;
 
@@ -80,6 +81,15 @@ impl Words {
             self.roots.push(random.uniform() as u32);
         }
     }
+
+    /// The same in allocations of exactly its lengths.
+    pub fn exact(mut self) -> Self {
+        self.nodes.shrink_to_fit();
+        self.base_consts.shrink_to_fit();
+        self.ext_consts.shrink_to_fit();
+        self.roots.shrink_to_fit();
+        self
+    }
 }
 
 /// Words of a main cell in the prover's frame.
@@ -130,6 +140,14 @@ impl Cells {
                 table.push(random.word());
             }
         }
+    }
+
+    /// The same in allocations of exactly its lengths.
+    pub fn exact(mut self) -> Self {
+        for table in [&mut self.main, &mut self.aux, &mut self.challenges, &mut self.alphas] {
+            table.shrink_to_fit();
+        }
+        self
     }
 }
 
