@@ -8,6 +8,8 @@ use lib.ListN.{length}
 use Rattle.ir.specs.Program.{joined}
 use Rattle.ir.specs.Refusals.{Row, row}
 use Rattle.ir.specs.Words.{Node, packed, var, rapChallenge, alphaPow, tableOffset, add, sub, mul, neg, embed}
+use Rattle.builder.specs.declared.call.Call.{Call}
+use Rattle.builder.specs.declared.call.Call.the-variants as Call
 use Rattle.builder.specs.declared.ir_builder.Expr.{Expr}
 use Rattle.builder.specs.Words.{node}
 use Rattle.builder.specs.Hashing.{Start}
@@ -97,3 +99,17 @@ negOf start t a = unaryOf start neg (a .dim) t a
 -- extension, also of an extension value
 abbrev pub embedOf : Start → Table → Expr → Built
 embedOf start t a = unaryOf start embed 1 t a
+
+-- ---- a call as data
+
+abbrev pub callOf : Start → Call → Table → Built
+callOf start (Call.Main offset col) t = mainCellOf start t offset col
+callOf start (Call.Aux offset col) t = auxCellOf start t offset col
+callOf start (Call.Challenge idx) t = challengeOf start t idx
+callOf start (Call.AlphaPower idx) t = alphaPowerOf start t idx
+callOf start Call.TableOffset t = tableOffsetOf start t
+callOf start (Call.Add a b) t = addOf start t a b
+callOf start (Call.Sub a b) t = subOf start t a b
+callOf start (Call.Mul a b) t = mulOf start t a b
+callOf start (Call.Neg a) t = negOf start t a
+callOf start (Call.Embed a) t = embedOf start t a
