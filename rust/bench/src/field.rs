@@ -13,6 +13,7 @@ use std::time::Instant;
 
 use differential::inputs::Random;
 
+use crate::report::Row;
 use crate::summary::{Summary, cpu_model};
 
 /// The same words in every run.
@@ -91,13 +92,13 @@ const CASES: [Case; 10] = [
     Case::ext("ext mul by narrow, latency", NARROW, EXT_MUL_CHAIN),
 ];
 
-pub fn run() {
+pub fn run() -> Vec<Row> {
     let mut random = Random::new(SEED);
     let (xs, ys) = operands(&mut random);
     for case in &CASES {
         check(case, &xs, &ys);
     }
-    print(measure(&mut random));
+    print(measure(&mut random))
 }
 
 /// Two buffers of uniform words, for a case that narrows the second itself.
@@ -157,7 +158,8 @@ fn measure(random: &mut Random) -> Times {
     times
 }
 
-fn print(times: Times) {
+fn print(times: Times) -> Vec<Row> {
+    let mut rows = Vec::new();
     println!(
         "{}; {ROUNDS} rounds of {PASSES} passes; two buffers of {WORDS} words ({} KiB each)",
         cpu_model(),
@@ -191,5 +193,9 @@ fn print(times: Times) {
             ours.median / reduced.median,
             ours.best / reduced.best,
         );
+        rows.push(Row::new(case.name.to_string(), "an operation", &ours, &published));
+        let what = format!("{}, published reduced", case.name);
+        rows.push(Row::new(what, "an operation", &ours, &reduced));
     }
+    rows
 }

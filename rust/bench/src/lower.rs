@@ -14,6 +14,7 @@ use host::lent::lower::{self, Lists, Rooms};
 use host::lent::program;
 use stark::constraint_ir::device::DeviceProgram;
 
+use crate::report::Row;
 use crate::summary::{Summary, cpu_model};
 use crate::walk::mixture;
 
@@ -167,7 +168,8 @@ fn measure<const CASES: usize>(plan: &Plan<CASES>) -> [(Case, Times); CASES] {
     cases
 }
 
-fn print<const CASES: usize>(plan: &Plan<CASES>) {
+fn print<const CASES: usize>(plan: &Plan<CASES>) -> Vec<Row> {
+    let mut rows = Vec::new();
     println!();
     println!("{} rounds of {} nodes", plan.rounds, plan.timed_nodes);
     for (case, times) in measure(plan) {
@@ -193,10 +195,13 @@ fn print<const CASES: usize>(plan: &Plan<CASES>) {
             published.best / ours.best,
             check.median / ours.median
         );
+        let what = format!("lowering, {} nodes, {} rounds", case.words.counts.nodes, plan.rounds);
+        rows.push(Row::new(what, "a node", &ours, &published));
     }
+    rows
 }
 
-pub fn run() {
+pub fn run() -> Vec<Row> {
     println!("{}; lowering", cpu_model());
     println!("nanoseconds a node of the program: median and best of the rounds; ratios are of nodes a second");
     println!(
@@ -204,6 +209,7 @@ pub fn run() {
     );
     println!("check: our program check by itself");
     println!("published: DeviceProgram::lower as published, which checks nothing and allocates its lists and the blob");
-    print(&SPEED);
-    print(&GROWTH);
+    let mut rows = print(&SPEED);
+    rows.extend(print(&GROWTH));
+    rows
 }

@@ -15,6 +15,7 @@ use math::field::goldilocks::{GoldilocksElement as BaseElement, GoldilocksField 
 use stark::constraint_ir::{Expr, IrBuilder, interp};
 use stark::traits::TransitionEvaluationContext;
 
+use crate::report::Row;
 use crate::summary::{Summary, cpu_model};
 
 /// The same programs and words in every run.
@@ -225,7 +226,7 @@ pub fn frame(random: &mut Random, shape: Shape) -> Cells {
 /// Nanoseconds a node, by case and side, one for each counted round.
 type Times = [[Vec<f64>; SIDES]; NODES.len()];
 
-pub fn run() {
+pub fn run() -> Vec<Row> {
     let mut random = Random::new(SEED);
     let mut cases = NODES.map(Case::new);
     for case in &mut cases {
@@ -261,7 +262,7 @@ pub fn run() {
             eprintln!("{} of {} rounds", round + 1, UNCOUNTED + ROUNDS);
         }
     }
-    print(&cases, times);
+    print(&cases, times)
 }
 
 /// How many of a program's nodes are leaves, and how many of its operations have an extension result.
@@ -272,7 +273,8 @@ fn mixture_of(words: &Words) -> (usize, usize) {
     (leaves, in_ext)
 }
 
-fn print(cases: &[Case], times: Times) {
+fn print(cases: &[Case], times: Times) -> Vec<Row> {
+    let mut rows = Vec::new();
     println!(
         "{}; prover's evaluator; {ROUNDS} rounds of {TIMED_NODES} nodes",
         cpu_model()
@@ -321,5 +323,8 @@ fn print(cases: &[Case], times: Times) {
             1_000.0 / ours.median,
             1_000.0 / published.median,
         );
+        let what = format!("evaluation, {} nodes", case.program.len());
+        rows.push(Row::new(what, "a node", &ours, &published));
     }
+    rows
 }

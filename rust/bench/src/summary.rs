@@ -2,6 +2,7 @@
 
 use std::fs;
 
+#[derive(Clone)]
 pub struct Summary {
     pub median: f64,
     pub best: f64,

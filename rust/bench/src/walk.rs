@@ -17,6 +17,7 @@ use stark::constraint_ir::device::DeviceProgram;
 use stark::constraint_ir::{Expr, IrBuilder};
 
 use crate::programs::{frame, operand};
+use crate::report::Row;
 use crate::summary::{Summary, cpu_model};
 
 /// The same blobs and words in every run.
@@ -197,22 +198,57 @@ pub fn mixture(operations: usize) -> Published {
     builder.finish(base_roots.len())
 }
 
-/// Nanoseconds a row, by case and side, one for each counted round.
-type Times = [[Vec<f64>; SIDES]; NODES.len()];
+/// What was measured of one blob: nanoseconds a row.
+pub struct Walked {
+    case: Case,
+    pub nodes: usize,
+    pub whole: Summary,
+    check: Summary,
+    /// The whole call less the check in the same round: the walk of a row with its clearing.
+    pub row: Summary,
+    pub published: Summary,
+}
 
-pub fn run() {
+impl Walked {
+    fn of(case: Case, times: [Vec<f64>; SIDES]) -> Self {
+        let differences = times[WHOLE]
+            .iter()
+            .zip(&times[CHECK])
+            .map(|(whole, check)| whole - check)
+            .collect();
+        let row = Summary::of(differences).median;
+        let [whole, published, check] = times.map(Summary::of);
+        Walked {
+            nodes: case.device.nodes.len(),
+            // The least difference of a round would be of one in which the check was held up.
+            row: Summary {
+                median: row,
+                best: whole.best - check.best,
+            },
+            case,
+            whole,
+            check,
+            published,
+        }
+    }
+}
+
+/// Blobs of about so many nodes, in so many rounds.
+pub fn measure(nodes: &[usize], rounds: usize) -> Vec<Walked> {
     let mut random = Random::new(SEED);
-    let mut cases = NODES.map(Case::new);
-    for case in &mut cases {
+    let mut cases: Vec<(Case, [Vec<f64>; SIDES])> = nodes
+        .iter()
+        .map(|nodes| (Case::new(*nodes), Default::default()))
+        .collect();
+    for (case, _) in &mut cases {
         let cells = frame(&mut random, SHAPE);
         case.compare(&cells);
     }
-    let mut times = Times::default();
-    for round in 0..UNCOUNTED + ROUNDS {
-        for (case, times) in cases.iter_mut().zip(&mut times) {
+    for round in 0..UNCOUNTED + rounds {
+        for (case, times) in &mut cases {
             let cells = frame(&mut random, SHAPE);
             let published_frame = DeviceFrame::new(&cells);
-            let rows = TIMED_NODES / case.device.nodes.len();
+            let rows = (TIMED_NODES / case.device.nodes.len()).max(1);
             for turn in 0..SIDES {
                 let side = (round + turn) % SIDES;
                 let start = Instant::now();
@@ -231,13 +267,13 @@ pub fn run() {
             }
         }
         if (round + 1) % 500 == 0 {
-            eprintln!("{} of {} rounds", round + 1, UNCOUNTED + ROUNDS);
+            eprintln!("{} of {} rounds", round + 1, UNCOUNTED + rounds);
         }
     }
-    print(&cases, times);
+    cases.into_iter().map(|(case, times)| Walked::of(case, times)).collect()
 }
 
-fn print(cases: &[Case], times: Times) {
+pub fn run() -> Vec<Row> {
     println!("{}; walk of blobs; {ROUNDS} rounds of {TIMED_NODES} nodes", cpu_model());
     println!("nanoseconds a row: median and best of the rounds; ratios are of rows a second, ours over published");
     println!("whole: one call of ours, which checks the blob, clears the lent slots itself and walks one row");
@@ -248,49 +284,55 @@ fn print(cases: &[Case], times: Times) {
         "published: eval_device_program as published, which checks nothing and allocates cleared slots in every call"
     );
     println!("slots were not cleared beforehand by the caller on either side");
-    for (case, times) in cases.iter().zip(times) {
-        let differences = times[WHOLE]
-            .iter()
-            .zip(&times[CHECK])
-            .map(|(whole, check)| whole - check)
-            .collect();
-        let row = Summary::of(differences).median;
-        let [whole, published, check] = times.map(Summary::of);
-        // The least difference of a round would be of one in which the check was held up.
-        let row = Summary {
-            median: row,
-            best: whole.best - check.best,
-        };
-        let counts = &case.words.counts;
-        let [cells, base, mixed, ext] = case.mixture();
-        println!();
-        println!(
-            "{} nodes: {cells} cells, {base} base, {mixed} mixed and {ext} extension operations; {} roots, {} base and {} \
-             extension slots",
-            counts.nodes, counts.roots, counts.base_slots, counts.ext_slots
-        );
-        for (name, time) in [
-            ("whole", &whole),
-            ("check", &check),
-            ("row", &row),
-            ("published", &published),
-        ] {
-            println!(
-                "  {name:<10}{:>10.0} ns{:>10.0} best{:>12.0} rows/s{:>8.2} ns a node",
-                time.median,
-                time.best,
-                1e9 / time.median,
-                time.median / f64::from(counts.nodes),
-            );
+    let mut rows = Vec::new();
+    for walked in measure(&NODES, ROUNDS) {
+        print(&walked);
+        for (name, ours) in [("whole call", &walked.whole), ("row", &walked.row)] {
+            let what = format!("walk, {} nodes, {name}", walked.nodes);
+            rows.push(Row::new(what, "a row", ours, &walked.published));
         }
+    }
+    rows
+}
+
+fn print(walked: &Walked) {
+    let Walked {
+        case,
+        whole,
+        check,
+        row,
+        published,
+        ..
+    } = walked;
+    let counts = &case.words.counts;
+    let [cells, base, mixed, ext] = case.mixture();
+    println!();
+    println!(
+        "{} nodes: {cells} cells, {base} base, {mixed} mixed and {ext} extension operations; {} roots, {} base and {} \
+         extension slots",
+        counts.nodes, counts.roots, counts.base_slots, counts.ext_slots
+    );
+    for (name, time) in [
+        ("whole", whole),
+        ("check", check),
+        ("row", row),
+        ("published", published),
+    ] {
         println!(
-            "  whole {:.2}x published, row {:.2}x published; check / row {:.2}; by the best rounds {:.2}x, {:.2}x, {:.2}",
-            published.median / whole.median,
-            published.median / row.median,
-            check.median / row.median,
-            published.best / whole.best,
-            published.best / row.best,
-            check.best / row.best,
+            "  {name:<10}{:>10.0} ns{:>10.0} best{:>12.0} rows/s{:>8.2} ns a node",
+            time.median,
+            time.best,
+            1e9 / time.median,
+            time.median / f64::from(counts.nodes),
         );
     }
+    println!(
+        "  whole {:.2}x published, row {:.2}x published; check / row {:.2}; by the best rounds {:.2}x, {:.2}x, {:.2}",
+        published.median / whole.median,
+        published.median / row.median,
+        check.median / row.median,
+        published.best / whole.best,
+        published.best / row.best,
+        check.best / row.best,
+    );
 }
