@@ -253,7 +253,10 @@ impl<'a> Evals<'a> {
 
     /// One constraint's value, if there is such a constraint.
     pub fn get(&self, constraint: usize) -> Option<Value> {
-        self.iter().nth(constraint)
+        match constraint.checked_sub(self.base.len()) {
+            None => Some(Value::Base(self.base[constraint])),
+            Some(past) => self.ext.get(past).map(|limbs| Value::Ext(*limbs)),
+        }
     }
 
     /// All values in the order of the constraints.

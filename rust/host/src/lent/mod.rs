@@ -14,7 +14,7 @@ pub mod program;
 /// length. Parameters that several calls have in a row stand here once, under one word: `counts` of a program, `blob_counts`,
 /// `shape` and `offset` of a frame, `tables` of a program or blob, `cells` of a frame, `rooms` for tables, and `lists`.
 ///
-/// Nothing checks the types against the library: hold the calls beside the header.
+/// No linker checks the types against the library: `tests/declarations.rs` holds them to its source and to the header.
 macro_rules! call {
     (@ $call:ident [$($types:tt)*] [$($values:tt)*]) => {{
         unsafe extern "C" {
