@@ -93,9 +93,11 @@ fn header() -> Calls {
         let (name, rest) = call.split_once('(').expect("a call has parameters");
         let types = items(within(rest)).map(|parameter| {
             let words: Vec<&str> = parameter.split_whitespace().collect();
-            let word = |name: &str| name.trim_end_matches("_t").replace("uint", "u").replace("int", "i");
+            let word = |name: &str| match name {
+                "size_t" => "usize".to_string(),
+                _ => name.trim_end_matches("_t").replace("uint", "u").replace("int", "i"),
+            };
             match words[..] {
-                ["size_t", _] => "usize".to_string(),
                 ["const", of, _] => format!("*const {}", word(of)),
                 [of, name] if name.starts_with('*') => format!("*mut {}", word(of)),
                 [of, _] => word(of),
