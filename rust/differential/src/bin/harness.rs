@@ -1,13 +1,12 @@
 //! Compares the host with the published Rust and with plain arithmetic on random cases of every kind: `harness SEED COUNT`,
-//! with `KIND` behind for one kind only. Says what was run at the end; the exit status is 1 where two sides differed. Each
+//! with `KIND` behind for one kind only. In place of a count `90s`, `30m` or `8h` runs as many cases as that time allows. Says what was run at the end; the exit status is 1 where two sides differed. Each
 //! case that did is named with its kind and seed, and `harness case KIND SEED` runs it again.
 
 #![forbid(unsafe_code)]
 
-use std::env;
-use std::panic;
 use std::process::ExitCode;
 use std::time::{Duration, Instant};
+use std::{env, fmt, panic};
 
 use differential::harness::{self, KINDS, Run};
 
@@ -32,12 +31,12 @@ fn main() -> ExitCode {
             }
             _ => usage(),
         },
-        [seed, count] => match (number(seed), number(count)) {
-            (Some(seed), Some(count)) => run(seed, count, (0..KINDS.len()).collect()),
+        [seed, bound] => match (number(seed), Bound::of(bound)) {
+            (Some(seed), Some(bound)) => run(seed, bound, (0..KINDS.len()).collect()),
             _ => usage(),
         },
-        [seed, count, kind] => match (number(seed), number(count), kind_of(kind)) {
-            (Some(seed), Some(count), Some(kind)) => run(seed, count, vec![kind]),
+        [seed, bound, kind] => match (number(seed), Bound::of(bound), kind_of(kind)) {
+            (Some(seed), Some(bound), Some(kind)) => run(seed, bound, vec![kind]),
             _ => usage(),
         },
         _ => usage(),
@@ -45,7 +44,8 @@ fn main() -> ExitCode {
 }
 
 fn usage() -> ExitCode {
-    eprintln!("harness: `harness SEED COUNT [KIND]` or `harness case KIND SEED`; the kinds are");
+    eprintln!("harness: `harness SEED COUNT [KIND]` or `harness case KIND SEED`; a time as 30m may stand for COUNT");
+    eprintln!("harness: the kinds are");
     for kind in &KINDS {
         eprintln!("  {:?}", kind.name);
     }
@@ -64,7 +64,41 @@ fn number(text: &str) -> Option<u64> {
     }
 }
 
-fn run(seed: u64, count: u64, mut kinds: Vec<usize>) -> ExitCode {
+/// How long a run is.
+enum Bound {
+    Cases(u64),
+    Time(Duration),
+}
+
+impl Bound {
+    /// A number of cases, or one of seconds, minutes or hours.
+    fn of(text: &str) -> Option<Self> {
+        let seconds = [("s", 1), ("m", 60), ("h", 3_600)];
+        let time = seconds.iter().find_map(|(unit, seconds)| {
+            let count: u64 = text.strip_suffix(unit)?.parse().ok()?;
+            Some(Bound::Time(Duration::from_secs(count.checked_mul(*seconds)?)))
+        });
+        time.or_else(|| number(text).map(Bound::Cases))
+    }
+
+    fn reached(&self, cases: u64, taken: Duration) -> bool {
+        match self {
+            Bound::Cases(count) => *count <= cases,
+            Bound::Time(time) => *time <= taken,
+        }
+    }
+}
+
+impl fmt::Display for Bound {
+    fn fmt(&self, f: &mut fmt::Formatter<'_>) -> fmt::Result {
+        match self {
+            Bound::Cases(count) => write!(f, "of {count} cases"),
+            Bound::Time(time) => write!(f, "cases, {} s to run", time.as_secs()),
+        }
+    }
+}
+
+fn run(seed: u64, bound: Bound, mut kinds: Vec<usize>) -> ExitCode {
     kinds.retain(|kind| {
         let left_out = harness::left_out(*kind);
         if let Some(why) = &left_out {
@@ -79,8 +113,9 @@ fn run(seed: u64, count: u64, mut kinds: Vec<usize>) -> ExitCode {
     panic::set_hook(Box::new(|_| ()));
     let (start, mut said) = (Instant::now(), Instant::now());
     let mut run = Run::new(seed, kinds);
-    let mut disagreements = 0;
-    for i in 0..count {
+    let (mut cases, mut disagreements) = (0, 0);
+    while !bound.reached(cases, start.elapsed()) {
+        cases += 1;
         if let Err(case) = run.next_case() {
             disagreements += 1;
             if disagreements <= MOST_SHOWN {
@@ -91,13 +126,10 @@ fn run(seed: u64, count: u64, mut kinds: Vec<usize>) -> ExitCode {
         if Duration::from_secs(10) <= said.elapsed() {
             said = Instant::now();
             let seconds = start.elapsed().as_secs();
-            eprintln!(
-                "harness: {} of {count} cases, {disagreements} disagreements, {seconds} s",
-                i + 1
-            );
+            eprintln!("harness: {cases} {bound}, {disagreements} disagreements, {seconds} s");
         }
     }
-    report(&run, seed, count, start.elapsed());
+    report(&run, seed, cases, start.elapsed());
     ExitCode::from(u8::from(disagreements != 0))
 }
 
