@@ -1,0 +1,4 @@
+-- Laws of the builder's calls on bytes.
+pub mod PromiseLaws
+pub mod RoomLaws
+pub mod Single

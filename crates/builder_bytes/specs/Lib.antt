@@ -1,0 +1,3 @@
+-- The builder's calls on bytes.
+pub mod Promises
+pub mod Rooms
