@@ -39,6 +39,16 @@
  *
  * and, where a blob is written, 10 after all others: the file is too short.
  *
+ * The numbers of builder calls, likewise:
+ *
+ *    1  a table that the call is lent is shorter than its count says
+ *    2  a column, challenge or alpha index is over 65,535
+ *    3  a handle is of no node: its id is not below n, or its dim is not that node's
+ *    6  the constraint is past the root room
+ *    5  the constant is new and its table is full
+ *    4  the node is new and there is no room for it
+ *   10  the output is too short; this is of the gap report alone, after 1
+ *
  * Where no place is named it is 0.
  */
 #ifndef CIR_H
@@ -159,6 +169,87 @@ uint64_t cir_eval_program_base(size_t n, size_t base_count, size_t ext_count, si
                                const uint64_t *base_consts, size_t base_consts_len, const uint64_t *ext_consts,
                                size_t ext_consts_len, const uint32_t *roots, size_t roots_len, const uint64_t *row,
                                size_t row_len, uint64_t *room, size_t room_len, uint64_t *value);
+
+/* ---- the builder
+ *
+ * A program is built in the caller's tables, one call a node; the counts are the caller's too, and each call is lent the
+ * tables and counts that it touches and no others. nodes has four words a node, places one word a node at least: there is
+ * room for the smaller of both, at most 536,870,911. More places make a lookup shorter. base_consts has one word a constant,
+ * ext_consts three, roots one word a constraint: root room is its length. A table may hold any words past its count; the
+ * places are the builder's own, and cir_builder_new clears them.
+ *
+ * A handle is a node's id and dim, 0 for base and 1 for extension. A call that makes a node writes it to id and dim and moves
+ * the counts up, on 0 alone; an equal node or a constant of equal value is found again, and then its handle is the one that
+ * it had. On a refusal no word and no count has changed.
+ *
+ * The counts at the end are the program's, for the calls above and below, with num_base as the caller has it; n is the
+ * number of nodes.
+ */
+
+/* a fresh builder: every place is freed, and node 0 is the base constant 0. After 0 n and base_count are 1; what they were
+ * before counts for nothing. The extension constants and the roots of a fresh builder are 0. Else 5 or 4. */
+uint64_t cir_builder_new(size_t *n, size_t *base_count, uint32_t *nodes, size_t nodes_len, uint32_t *places,
+                         size_t places_len, uint64_t *base_consts, size_t base_consts_len, uint32_t *id,
+                         uint32_t *dim);
+
+/* a cell of the main trace, which is base, at a step and a column; else 1, 2 or 4 */
+uint64_t cir_builder_main(size_t *n, uint32_t *nodes, size_t nodes_len, uint32_t *places, size_t places_len,
+                          uint8_t step, size_t column, uint32_t *id, uint32_t *dim);
+/* a cell of the aux trace, which is extension; else 1, 2 or 4 */
+uint64_t cir_builder_aux(size_t *n, uint32_t *nodes, size_t nodes_len, uint32_t *places, size_t places_len,
+                         uint8_t step, size_t column, uint32_t *id, uint32_t *dim);
+/* a challenge; else 1, 2 or 4 */
+uint64_t cir_builder_challenge(size_t *n, uint32_t *nodes, size_t nodes_len, uint32_t *places, size_t places_len,
+                               size_t index, uint32_t *id, uint32_t *dim);
+/* an alpha power; else 1, 2 or 4 */
+uint64_t cir_builder_alpha_power(size_t *n, uint32_t *nodes, size_t nodes_len, uint32_t *places, size_t places_len,
+                                 size_t index, uint32_t *id, uint32_t *dim);
+/* the table offset; else 1 or 4 */
+uint64_t cir_builder_table_offset(size_t *n, uint32_t *nodes, size_t nodes_len, uint32_t *places, size_t places_len,
+                                  uint32_t *id, uint32_t *dim);
+
+/* a base constant, put below p; else 1, 5 or 4 */
+uint64_t cir_builder_const_base(size_t *n, size_t *base_count, uint32_t *nodes, size_t nodes_len, uint32_t *places,
+                                size_t places_len, uint64_t *base_consts, size_t base_consts_len, uint64_t v,
+                                uint32_t *id, uint32_t *dim);
+/* likewise, v where it is not negative, else p - |v| */
+uint64_t cir_builder_const_signed(size_t *n, size_t *base_count, uint32_t *nodes, size_t nodes_len,
+                                  uint32_t *places, size_t places_len, uint64_t *base_consts,
+                                  size_t base_consts_len, int64_t v, uint32_t *id, uint32_t *dim);
+/* the base constant 1; else 1, 5 or 4 */
+uint64_t cir_builder_one(size_t *n, size_t *base_count, uint32_t *nodes, size_t nodes_len, uint32_t *places,
+                         size_t places_len, uint64_t *base_consts, size_t base_consts_len, uint32_t *id,
+                         uint32_t *dim);
+/* an extension constant of three limbs, each put below p; else 1, 5 or 4 */
+uint64_t cir_builder_const_ext(size_t *n, size_t *ext_count, uint32_t *nodes, size_t nodes_len, uint32_t *places,
+                               size_t places_len, uint64_t *ext_consts, size_t ext_consts_len, uint64_t l0,
+                               uint64_t l1, uint64_t l2, uint32_t *id, uint32_t *dim);
+
+/* a + b, which is base where both are; else 1, 3 or 4 */
+uint64_t cir_builder_add(size_t *n, uint32_t *nodes, size_t nodes_len, uint32_t *places, size_t places_len,
+                         uint32_t a_id, uint32_t a_dim, uint32_t b_id, uint32_t b_dim, uint32_t *id, uint32_t *dim);
+/* a - b, likewise */
+uint64_t cir_builder_sub(size_t *n, uint32_t *nodes, size_t nodes_len, uint32_t *places, size_t places_len,
+                         uint32_t a_id, uint32_t a_dim, uint32_t b_id, uint32_t b_dim, uint32_t *id, uint32_t *dim);
+/* a times b, likewise */
+uint64_t cir_builder_mul(size_t *n, uint32_t *nodes, size_t nodes_len, uint32_t *places, size_t places_len,
+                         uint32_t a_id, uint32_t a_dim, uint32_t b_id, uint32_t b_dim, uint32_t *id, uint32_t *dim);
+/* -a, of the dim of a; else 1, 3 or 4 */
+uint64_t cir_builder_neg(size_t *n, uint32_t *nodes, size_t nodes_len, uint32_t *places, size_t places_len,
+                         uint32_t a_id, uint32_t a_dim, uint32_t *id, uint32_t *dim);
+/* a as an extension value, a new node also where it is one; else 1, 3 or 4 */
+uint64_t cir_builder_embed(size_t *n, uint32_t *nodes, size_t nodes_len, uint32_t *places, size_t places_len,
+                           uint32_t a_id, uint32_t a_dim, uint32_t *id, uint32_t *dim);
+
+/* the node becomes the root of a constraint, in place of one that it had; root_count becomes the constraint plus 1 where it
+ * was lower, and the roots that this brings in before it are node 0. Else 1, 3 or 6. */
+uint64_t cir_builder_emit(size_t n, size_t *root_count, const uint32_t *nodes, size_t nodes_len, uint32_t *roots,
+                          size_t roots_len, size_t constraint, uint32_t id, uint32_t dim);
+
+/* the constraints whose root is node 0, ascending, into out, and how many into count; words of out past them stay. Else 1
+ * or 10. */
+uint64_t cir_builder_gaps(size_t root_count, const uint32_t *roots, size_t roots_len, uint64_t *out, size_t out_len,
+                          uint64_t *count);
 
 /* ---- lowering */
 

@@ -1,5 +1,7 @@
 -- Lemmas of the calls.
 pub mod BlobSingle
+pub mod BuilderCallLaws
+pub mod BuilderSingle
 pub mod ByteCallLaws
 pub mod FieldCallLaws
 pub mod Single

@@ -1,5 +1,6 @@
 -- What the calls promise.
 pub mod BlobCalls
+pub mod BuilderCalls
 pub mod ByteCalls
 pub mod FieldCalls
 pub mod LowerCalls
