@@ -362,6 +362,82 @@ uint64_t cir_walk_stored(size_t steps, size_t main_width, size_t aux_width, size
                          size_t base_eval_words_len, uint64_t *ext_eval_words, size_t ext_eval_words_len,
                          uint8_t *bytes, size_t bytes_len, uint64_t *slots, size_t slots_len);
 
+/* ---- the builder over bytes
+ *
+ * The builder's calls with their tables as little-endian words: nodes, places and roots of four bytes a word, constants and
+ * the gap report of eight. A room is lent beside each table, node_words for nodes and so on: 1, before the numbers of the
+ * call on words, where one has fewer words than its bytes, and then no room has changed. Else the rooms have the words at
+ * their fronts, also after a refusal of the call; the bytes have changed on 0 alone.
+ */
+
+/* a fresh builder, as cir_builder_new */
+uint64_t cir_builder_new_bytes(size_t *n, size_t *base_count, uint8_t *nodes, size_t nodes_len, uint8_t *places,
+                               size_t places_len, uint8_t *base_consts, size_t base_consts_len, uint32_t *node_words,
+                               size_t node_words_len, uint32_t *place_words, size_t place_words_len,
+                               uint64_t *const_words, size_t const_words_len, uint32_t *id, uint32_t *dim);
+
+/* the ten calls that make a node from nodes and places alone, as those of the same names without _bytes */
+uint64_t cir_builder_main_bytes(size_t *n, uint8_t *nodes, size_t nodes_len, uint8_t *places, size_t places_len,
+                                uint32_t *node_words, size_t node_words_len, uint32_t *place_words,
+                                size_t place_words_len, uint8_t step, size_t column, uint32_t *id, uint32_t *dim);
+uint64_t cir_builder_aux_bytes(size_t *n, uint8_t *nodes, size_t nodes_len, uint8_t *places, size_t places_len,
+                               uint32_t *node_words, size_t node_words_len, uint32_t *place_words,
+                               size_t place_words_len, uint8_t step, size_t column, uint32_t *id, uint32_t *dim);
+uint64_t cir_builder_challenge_bytes(size_t *n, uint8_t *nodes, size_t nodes_len, uint8_t *places, size_t places_len,
+                                     uint32_t *node_words, size_t node_words_len, uint32_t *place_words,
+                                     size_t place_words_len, size_t index, uint32_t *id, uint32_t *dim);
+uint64_t cir_builder_alpha_power_bytes(size_t *n, uint8_t *nodes, size_t nodes_len, uint8_t *places,
+                                       size_t places_len, uint32_t *node_words, size_t node_words_len,
+                                       uint32_t *place_words, size_t place_words_len, size_t index, uint32_t *id,
+                                       uint32_t *dim);
+uint64_t cir_builder_table_offset_bytes(size_t *n, uint8_t *nodes, size_t nodes_len, uint8_t *places,
+                                        size_t places_len, uint32_t *node_words, size_t node_words_len,
+                                        uint32_t *place_words, size_t place_words_len, uint32_t *id, uint32_t *dim);
+uint64_t cir_builder_add_bytes(size_t *n, uint8_t *nodes, size_t nodes_len, uint8_t *places, size_t places_len,
+                               uint32_t *node_words, size_t node_words_len, uint32_t *place_words,
+                               size_t place_words_len, uint32_t a_id, uint32_t a_dim, uint32_t b_id, uint32_t b_dim,
+                               uint32_t *id, uint32_t *dim);
+uint64_t cir_builder_sub_bytes(size_t *n, uint8_t *nodes, size_t nodes_len, uint8_t *places, size_t places_len,
+                               uint32_t *node_words, size_t node_words_len, uint32_t *place_words,
+                               size_t place_words_len, uint32_t a_id, uint32_t a_dim, uint32_t b_id, uint32_t b_dim,
+                               uint32_t *id, uint32_t *dim);
+uint64_t cir_builder_mul_bytes(size_t *n, uint8_t *nodes, size_t nodes_len, uint8_t *places, size_t places_len,
+                               uint32_t *node_words, size_t node_words_len, uint32_t *place_words,
+                               size_t place_words_len, uint32_t a_id, uint32_t a_dim, uint32_t b_id, uint32_t b_dim,
+                               uint32_t *id, uint32_t *dim);
+uint64_t cir_builder_neg_bytes(size_t *n, uint8_t *nodes, size_t nodes_len, uint8_t *places, size_t places_len,
+                               uint32_t *node_words, size_t node_words_len, uint32_t *place_words,
+                               size_t place_words_len, uint32_t a_id, uint32_t a_dim, uint32_t *id, uint32_t *dim);
+uint64_t cir_builder_embed_bytes(size_t *n, uint8_t *nodes, size_t nodes_len, uint8_t *places, size_t places_len,
+                                 uint32_t *node_words, size_t node_words_len, uint32_t *place_words,
+                                 size_t place_words_len, uint32_t a_id, uint32_t a_dim, uint32_t *id, uint32_t *dim);
+
+/* constants, as those of the same names without _bytes */
+uint64_t cir_builder_const_base_bytes(size_t *n, size_t *base_count, uint8_t *nodes, size_t nodes_len,
+                                      uint8_t *places, size_t places_len, uint8_t *base_consts,
+                                      size_t base_consts_len, uint32_t *node_words, size_t node_words_len,
+                                      uint32_t *place_words, size_t place_words_len, uint64_t *const_words,
+                                      size_t const_words_len, uint64_t v, uint32_t *id, uint32_t *dim);
+uint64_t cir_builder_one_bytes(size_t *n, size_t *base_count, uint8_t *nodes, size_t nodes_len, uint8_t *places,
+                               size_t places_len, uint8_t *base_consts, size_t base_consts_len, uint32_t *node_words,
+                               size_t node_words_len, uint32_t *place_words, size_t place_words_len,
+                               uint64_t *const_words, size_t const_words_len, uint32_t *id, uint32_t *dim);
+uint64_t cir_builder_const_ext_bytes(size_t *n, size_t *ext_count, uint8_t *nodes, size_t nodes_len, uint8_t *places,
+                                     size_t places_len, uint8_t *ext_consts, size_t ext_consts_len,
+                                     uint32_t *node_words, size_t node_words_len, uint32_t *place_words,
+                                     size_t place_words_len, uint64_t *const_words, size_t const_words_len,
+                                     uint64_t l0, uint64_t l1, uint64_t l2, uint32_t *id, uint32_t *dim);
+
+/* a root; the nodes are read only */
+uint64_t cir_builder_emit_bytes(size_t n, size_t *root_count, const uint8_t *nodes, size_t nodes_len, uint8_t *roots,
+                                size_t roots_len, uint32_t *node_words, size_t node_words_len, uint32_t *root_words,
+                                size_t root_words_len, size_t constraint, uint32_t id, uint32_t dim);
+
+/* the gap report, as words of eight bytes into out; the roots are read only */
+uint64_t cir_builder_gaps_bytes(size_t root_count, const uint8_t *roots, size_t roots_len, uint8_t *out,
+                                size_t out_len, uint32_t *root_words, size_t root_words_len, uint64_t *out_words,
+                                size_t out_words_len, uint64_t *count);
+
 #ifdef __cplusplus
 }
 #endif

@@ -1,5 +1,6 @@
 -- Lemmas of the calls.
 pub mod BlobSingle
+pub mod BuilderByteLaws
 pub mod BuilderCallLaws
 pub mod BuilderSingle
 pub mod ByteCallLaws

@@ -23,7 +23,7 @@ use builder::ir_builder::Expr;
 use builder::ir_builder::IrBuilder;
 
 // Counts that a call is not lent are 0: it does not look at them.
-fn builder_of(n: usize, b: usize, x: usize, r: usize) -> IrBuilder
+pub fn builder_of(n: usize, b: usize, x: usize, r: usize) -> IrBuilder
     ensures { λ c. ⌜ c ≡ lentCounts n b x r ⌝ }
 {
     IrBuilder {
@@ -35,7 +35,7 @@ fn builder_of(n: usize, b: usize, x: usize, r: usize) -> IrBuilder
 }
 
 // The counts after a call: as before where it refuses.
-fn after(was: IrBuilder, made: Answer) -> IrBuilder
+pub fn after(was: IrBuilder, made: Answer) -> IrBuilder
     ensures { λ r. ⌜ r ≡ builderAfter was made ⌝ }
 {
     match made {
@@ -45,7 +45,7 @@ fn after(was: IrBuilder, made: Answer) -> IrBuilder
 }
 
 // The handle is written on 0 alone.
-fn hand(made: Answer, id: &mut u32, dim: &mut u32) -> u64
+pub fn hand(made: Answer, id: &mut u32, dim: &mut u32) -> u64
     ensures { λ a. ⌜ Handed (saidOfAnswer made) a (now (id .entry)) (now (id .exit)) (now (dim .entry)) (now (dim .exit)) ⌝ }
 {
     match made {

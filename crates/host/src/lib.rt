@@ -1,6 +1,7 @@
 // The calls that a Rust or C host links; include/cir.h declares them. They move words between the
 // host's memory and the library and decide nothing; every call takes every input.
 mod blob_calls;
+mod builder_byte_calls;
 mod builder_calls;
 mod byte_calls;
 mod field_calls;
