@@ -1,10 +1,12 @@
 //! Times of the host's calls against the published Rust, in one process and on the same words.
 //!
 //! Without an argument all parts run, one table of all ratios follows, and the walk's speed by the size of the blob is
-//! measured and drawn into `docs/walk.svg`. `field`, `programs`, `lower` or `walk` names one part; `plot FILE` draws only.
+//! measured and drawn into `docs/walk.svg`. `field`, `builder`, `programs`, `lower` or `walk` names one part; `plot FILE` draws
+//! only.
 
 #![forbid(unsafe_code)]
 
+mod builder;
 mod field;
 mod lower;
 mod plot;
@@ -23,8 +25,9 @@ use summary::cpu_model;
 /// Measures and prints one part.
 type Part = fn() -> Vec<Row>;
 
-const PARTS: [(&str, Part); 4] = [
+const PARTS: [(&str, Part); 5] = [
     ("field", field::run),
+    ("builder", builder::run),
     ("programs", programs::run),
     ("lower", lower::run),
     ("walk", walk::run),
@@ -50,7 +53,9 @@ fn main() -> ExitCode {
 }
 
 fn usage() -> ExitCode {
-    eprintln!("bench: the parts are `field`, `programs`, `lower` and `walk`, and `plot FILE` draws the walk's speed");
+    eprintln!(
+        "bench: the parts are `field`, `builder`, `programs`, `lower` and `walk`, and `plot FILE` draws the walk's speed"
+    );
     ExitCode::FAILURE
 }
 

@@ -1,6 +1,6 @@
 //! What the comparisons in tests/ share: the inputs, the published operations on plain words, the same operations by
-//! plain arithmetic, and the comparison itself; and all of that once more for programs, for lowering, for blobs and for
-//! their stored form.
+//! plain arithmetic, and the comparison itself; and all of that once more for programs, for the builder, for lowering, for
+//! blobs and for their stored form.
 //! Besides, the lines of the samples that Rattle programs replay.
 //!
 //! The host promises words below p; the published Rust leaves any word with the right remainder. So a published word
@@ -9,6 +9,7 @@
 #![forbid(unsafe_code)]
 
 pub mod blobs;
+pub mod builder;
 pub mod harness;
 pub mod inputs;
 pub mod lines;

@@ -1,4 +1,4 @@
-//! A small table from its constraints to their values: the program is checked and lowered, the blob is stored and read back,
+//! A small table from its constraints to their values: the program is built and lowered, the blob is stored and read back,
 //! checked for the table's shape, and walked over the table's rows.
 //!
 //! The argument names a file for the stored blob; without one the blob stays in memory.
@@ -6,7 +6,7 @@
 use std::error::Error;
 use std::{env, fs};
 
-use host::{Blob, Ext, Frame, Program, ProgramWords, Shape};
+use host::{Blob, Builder, Ext, Frame, Program, Shape};
 
 /// The table: one main column, three aux columns and one challenge. A constraint reads two rows.
 const SHAPE: Shape = Shape {
@@ -48,25 +48,17 @@ fn main() -> Result<(), Box<dyn Error>> {
 /// Constraint 0: the next row's counter, less this row's, less 1. Constraint 1: aux column 2 times the challenge, plus
 /// constraint 0's value. It is program E of the scope document.
 fn constraints() -> Result<Program, host::Error> {
-    Program::new(ProgramWords {
-        // Tag, x, y, dim. Node 0 is the constant 0, as in every program that a builder makes.
-        nodes: vec![
-            [0, 0, 0, 0],
-            [2, 0, 0x1_0000, 0],
-            [2, 0, 0x1_0100, 0],
-            [7, 2, 1, 0],
-            [0, 1, 0, 0],
-            [7, 3, 4, 0],
-            [2, 2, 0, 1],
-            [3, 0, 0, 1],
-            [8, 6, 7, 1],
-            [6, 8, 5, 1],
-        ],
-        base_consts: vec![0, 1],
-        ext_consts: vec![],
-        roots: vec![5, 9],
-        num_base: 1,
-    })
+    let mut b = Builder::new();
+    let (this, next) = (b.main(0, 0)?, b.main(1, 0)?);
+    let difference = b.sub(next, this)?;
+    let one = b.one()?;
+    let step = b.sub(difference, one)?;
+    b.emit(0, step)?;
+    let (cell, challenge) = (b.aux(0, 2)?, b.challenge(0)?);
+    let product = b.mul(cell, challenge)?;
+    let sum = b.add(product, step)?;
+    b.emit(1, sum)?;
+    b.finish(1)
 }
 
 /// The blob by way of its file.

@@ -1,22 +1,21 @@
 //! Constraint programs and their device blobs, over the project's proved static library.
 //!
-//! A [`Program`] is a set of constraints as a flat list of nodes; it is evaluated as it is, or lowered to a [`Blob`], which
-//! is kept as a file and walked over one [`Frame`] at a time. What a call cannot do is an [`Error`], which has a number and a
-//! place.
+//! A [`Program`] is a set of constraints as a flat list of nodes, which a [`Builder`] makes; it is evaluated as it is, or
+//! lowered to a [`Blob`], which is kept as a file and walked over one [`Frame`] at a time. What a call cannot do is an
+//! [`Error`], which has a number and a place.
 //!
 //! A field value is a 64-bit word that stands for its remainder by [`P`]. Every word is taken; every word that comes back
 //! as a value is below `P`. An extension value, [`Ext`], is three words over w with w³ = 2.
 //!
 //! ```
-//! use host::{Blob, Frame, Program, ProgramWords, Shape, Value};
+//! use host::{Blob, Builder, Frame, Shape, Value};
 //!
 //! // One constraint: the second row's cell, less the first row's.
-//! let program = Program::new(ProgramWords {
-//!     nodes: vec![[2, 0, 65_536, 0], [2, 0, 65_792, 0], [7, 1, 0, 0]],
-//!     roots: vec![2],
-//!     num_base: 1,
-//!     ..ProgramWords::default()
-//! })?;
+//! let mut builder = Builder::new();
+//! let (this, next) = (builder.main(0, 0)?, builder.main(1, 0)?);
+//! let step = builder.sub(next, this)?;
+//! builder.emit(0, step)?;
+//! let program = builder.finish(1)?;
 //! let blob = Blob::read(program.lower()?.stored())?;
 //! let shape = Shape { steps: 2, main_width: 1, ..Shape::default() };
 //! blob.check(&shape)?;
@@ -32,6 +31,7 @@
 #![deny(missing_docs)]
 
 mod blob;
+mod builder;
 mod error;
 pub mod ext;
 pub mod field;
@@ -40,6 +40,7 @@ pub mod lent;
 mod program;
 
 pub use blob::{Blob, Evals, Walker};
+pub use builder::{Builder, Expr};
 pub use error::{Error, Refusal};
 pub use frame::{Frame, Value};
 pub use lent::blob::BlobCounts;

@@ -133,6 +133,13 @@ fn wrapped() -> Calls {
                 ["cells", word, ..] => tables("const", word, word),
                 ["rooms", ..] => tables("mut", "u32", "u64"),
                 ["lists", ..] => [(); 5].map(|()| slice("mut", "u32")).concat(),
+                ["builder", ..] => [owned(["*mut usize"]), slice("mut", "u32"), slice("mut", "u32")].concat(),
+                ["constants", ..] => {
+                    let nodes = [slice("mut", "u32"), slice("mut", "u32")].concat();
+                    [owned(["*mut usize"; 2]), nodes, slice("mut", "u64")].concat()
+                }
+                ["handle", ..] => owned(["u32"; 2]),
+                ["made", ..] => owned(["*mut u32"; 2]),
                 _ => panic!("a parameter that is not understood: {parameter}"),
             }
         });

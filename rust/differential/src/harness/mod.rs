@@ -4,6 +4,7 @@
 //! exactly its length, so that a tool that watches memory sees a call that goes past it.
 
 mod blobs;
+mod builder;
 mod listing;
 mod programs;
 mod stored;
@@ -31,7 +32,10 @@ impl Kind {
 }
 
 /// All kinds, in the order in which they take turns.
-pub const KINDS: [Kind; 9] = [
+pub const KINDS: [Kind; 12] = [
+    Kind::new("builder calls", builder::calls),
+    Kind::new("full builder", builder::full),
+    Kind::new("any builder memory", builder::any_memory),
     Kind::new("built program", programs::built),
     Kind::new("foreign program", programs::foreign),
     Kind::new("changed program", programs::changed),

@@ -50,9 +50,9 @@ impl<T: Copy + PartialEq + Debug> Lent<T> {
         &mut self.plain[GUARD..GUARD + self.len]
     }
 
-    /// Compares all words, guards included, and gives those that were lent.
+    /// Compares all words, guards included.
     #[track_caller]
-    pub(crate) fn compared(mut self, name: &str, score: &mut Score, what: Arguments<'_>) -> Vec<T> {
+    pub(crate) fn compare(&self, name: &str, score: &mut Score, what: Arguments<'_>) {
         if let Some(at) = (0..self.host.len()).find(|at| self.host[*at] != self.plain[*at]) {
             panic!(
                 "{what}: word {} of {name} (of {} lent): ours is {:?}, plain is {:?}",
@@ -63,6 +63,12 @@ impl<T: Copy + PartialEq + Debug> Lent<T> {
             );
         }
         score.words += self.host.len() as u64;
+    }
+
+    /// Compares likewise, and gives the words that were lent.
+    #[track_caller]
+    pub(crate) fn compared(mut self, name: &str, score: &mut Score, what: Arguments<'_>) -> Vec<T> {
+        self.compare(name, score, what);
         self.host.drain(..GUARD);
         self.host.truncate(self.len);
         self.host

@@ -4,6 +4,7 @@
 //! its pointer, and what a call writes overlaps nothing that it reads, since it is lent as slices.
 
 pub mod blob;
+pub mod builder;
 pub mod bytes;
 pub mod lower;
 pub mod program;
@@ -12,7 +13,8 @@ pub mod program;
 ///
 /// After the name stand the call's parameters, in the order of `include/cir.h`. A slice is two of C's parameters, pointer and
 /// length. Parameters that several calls have in a row stand here once, under one word: `counts` of a program, `blob_counts`,
-/// `shape` and `offset` of a frame, `tables` of a program or blob, `cells` of a frame, `rooms` for tables, and `lists`.
+/// `shape` and `offset` of a frame, `tables` of a program or blob, `cells` of a frame, `rooms` for tables, and `lists`; of a
+/// `builder` the nodes and places, with a table of its `constants` too, the `handle` of a node, and one that is `made`.
 ///
 /// No linker checks the types against the library: `tests/declarations.rs` holds them to its source and to the header.
 macro_rules! call {
@@ -86,6 +88,32 @@ macro_rules! call {
         $crate::lent::call!(
             @ $call $types $values number u64 $limbs[0], number u64 $limbs[1], number u64 $limbs[2], $($rest)*
         )
+    };
+    (@ $call:ident $types:tt $values:tt builder $builder:expr, $($rest:tt)*) => {
+        $crate::lent::call!(
+            @ $call $types $values
+            out usize &mut $builder.filled.nodes,
+            write u32 $builder.nodes,
+            write u32 $builder.places,
+            $($rest)*
+        )
+    };
+    (@ $call:ident $types:tt $values:tt constants $table:ident $builder:expr, $($rest:tt)*) => {
+        $crate::lent::call!(
+            @ $call $types $values
+            out usize &mut $builder.filled.nodes,
+            out usize &mut $builder.filled.$table,
+            write u32 $builder.nodes,
+            write u32 $builder.places,
+            write u64 $builder.$table,
+            $($rest)*
+        )
+    };
+    (@ $call:ident $types:tt $values:tt handle $handle:expr, $($rest:tt)*) => {
+        $crate::lent::call!(@ $call $types $values number u32 $handle.id, number u32 $handle.dim, $($rest)*)
+    };
+    (@ $call:ident $types:tt $values:tt made $handle:expr, $($rest:tt)*) => {
+        $crate::lent::call!(@ $call $types $values out u32 &mut $handle.id, out u32 &mut $handle.dim, $($rest)*)
     };
     (@ $call:ident $types:tt $values:tt tables $short:ident $long:ident $of:expr, $($rest:tt)*) => {
         $crate::lent::call!(
