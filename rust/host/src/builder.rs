@@ -61,6 +61,9 @@ const CONSTANTS: usize = 8;
 /// Places for each node that fits, so that half of them are free in a full table.
 const PLACES: usize = 2;
 
+/// How many times as many nodes fit when the tables have grown. With 4, a third of all nodes are made twice; with 2, all.
+const GROWTH: usize = 4;
+
 /// The most nodes, and constants of a class.
 const MOST: usize = 536_870_911;
 
@@ -123,11 +126,11 @@ impl Builder {
         }
     }
 
-    /// Where a lookup starts depends on the number of places, so the nodes are made once more in tables twice as long: each
-    /// in its turn, which gives it the number that it has.
+    /// Where a lookup starts depends on the number of places, so the nodes are made once more in longer tables: each in its
+    /// turn, which gives it the number that it has.
     #[cold]
     fn grow_nodes(&mut self) -> Result<(), Error> {
-        let mut larger = Builder::with_room(2 * self.nodes.len());
+        let mut larger = Builder::with_room(GROWTH * self.nodes.len());
         for id in 0..self.filled.nodes {
             larger.make_again(self, self.nodes[id])?;
         }
