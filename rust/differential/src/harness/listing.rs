@@ -1,21 +1,14 @@
 //! Cases of the program `blob_list`.
 
 use std::fmt::Arguments;
-use std::path::{Path, PathBuf};
 
 use crate::Score;
 use crate::inputs::Random;
-use crate::stored::listing::{LONGEST, plain, printed};
-
-/// Where `rt check blob_list` puts the program, seen from this crate.
-fn program() -> PathBuf {
-    Path::new(env!("CARGO_MANIFEST_DIR")).join("../../target/bin/blob_list")
-}
+use crate::stored::listing::{LONGEST, compare, program};
 
 /// Why there are no such cases here, if so.
 pub(super) fn left_out() -> Option<String> {
-    let program = program();
-    (!program.is_file()).then(|| format!("{} is not there: `rt check blob_list` builds it", program.display()))
+    program().err()
 }
 
 /// What the program prints for a file, most of them with something changed, some too long.
@@ -24,7 +17,6 @@ pub(super) fn case(score: &mut Score, random: &mut Random, what: Arguments<'_>) 
     if random.once_in(10) {
         file.resize(LONGEST + random.below(3), 0);
     }
-    let ours = printed(&program(), &file).expect("the program runs");
-    assert_eq!(ours, plain(&file), "{what}: the listing of {file:?}");
-    score.words += ours.len() as u64;
+    let program = program().unwrap_or_else(|what_to_do| panic!("{what_to_do}"));
+    compare(score, &program, &[&file], what);
 }
