@@ -13,7 +13,7 @@ use Rattle.ir.specs.declared.refusal.Outcome.the-variants.{Done}
 use Rattle.ir.specs.Program.{Program, tooManyRoots}
 use Rattle.ir.specs.Refusals.{Row, row, rowAt, first, gives}
 use Rattle.ir.specs.Shape.{overShape}
-use Rattle.interp.specs.Frame.{Lent, nodeOutside, frameLimits}
+use Rattle.values.specs.Frame.{Lent, nodeOutside, frameLimits}
 use Rattle.interp.specs.Evaluation.{shortFrame, shortEvals, extRoot, lengths, proverRows, ProverAnswer}
 use Rattle.lower.specs.declared.lower.Lowering.{Lowering}
 use Rattle.lower.specs.Answer.{Lists, Output, lowering, shortLists, shortOutput, countsOf, lowerSaid, LowerAnswer}

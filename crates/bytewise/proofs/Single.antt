@@ -8,7 +8,7 @@ use Rattle.ir.specs.declared.program.Counts.{Counts}
 use Rattle.ir.specs.declared.frame.Shape.{Shape}
 use Rattle.ir.specs.declared.refusal.Outcome.{Outcome}
 use Rattle.ir.specs.Program.{Program}
-use Rattle.interp.specs.Frame.{Lent}
+use Rattle.values.specs.Frame.{Lent}
 use Rattle.device.specs.Blob.{Blob}
 use Rattle.device.proofs.Single.{check-blob-single}
 use Rattle.lower.specs.declared.lower.Lowering.{Lowering}

@@ -18,7 +18,7 @@ use Rattle.ir.specs.declared.refusal.Outcome.{Outcome}
 use Rattle.ir.specs.declared.refusal.Outcome.the-variants as Outcome
 use Rattle.ir.specs.Refusals.{saidOf}
 use Rattle.ir.proofs.RefusalLaws.{refusal-number}
-use Rattle.interp.specs.Frame.{Lent}
+use Rattle.values.specs.Frame.{Lent}
 use Rattle.device.specs.declared.blob.BlobCounts.{BlobCounts}
 use Rattle.device.specs.Blob.{Blob}
 use Rattle.walk.specs.Walk.{WalkAnswer}

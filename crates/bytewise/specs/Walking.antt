@@ -14,7 +14,7 @@ use Rattle.ir.specs.declared.refusal.Refusal.the-variants.{ShortMemory}
 use Rattle.ir.specs.declared.refusal.Outcome.{Outcome}
 use Rattle.ir.specs.declared.refusal.Outcome.the-variants as Outcome
 use Rattle.ir.specs.Refusals.{saidOfOutcome}
-use Rattle.interp.specs.Frame.{Lent, lent}
+use Rattle.values.specs.Frame.{Lent, lent}
 use Rattle.device.specs.declared.blob.BlobCounts.{BlobCounts}
 use Rattle.device.specs.Blob.{Blob}
 use Rattle.walk.specs.Walk.{WalkAnswer}

@@ -2,7 +2,7 @@
 ghost use mathlib.Core.Path.{_≡_};
 ghost use Prim.Native.Nat.{_*_, _≤_};
 ghost use lib.ListN.{length};
-ghost use Rattle.interp.specs.Frame.{lent};
+ghost use Rattle.values.specs.Frame.{lent};
 ghost use Rattle.bytewise.specs.Walking.{frameWords, putFrame, shortFrameRooms, shortEvalRooms, tight, FrameFits, EvalsFit, Packed, Walked, WalkBytes, WalkStored};
 use super::words::pack64;
 use super::words::unpack64;

@@ -30,7 +30,7 @@ use Rattle.laws.specs.Options.{after, on1, on2, onlyIf, missing, at}
 use Rattle.field.specs.Tower.{Tower}
 use Rattle.ir.specs.declared.frame.Shape.{Shape}
 use Rattle.ir.specs.Words.{mainOf, offsetOf, rowOf}
-use Rattle.interp.specs.Values.{Value, base, ext, toExt}
+use Rattle.values.specs.Values.{Value, base, ext, toExt}
 use Rattle.device.specs.declared.blob.BlobCounts.{BlobCounts}
 use Rattle.device.specs.Blob.{Instr, instrAt, Blob, baseSlots, extSlots, isExt, slotOf, kindOf, payloadOf, Table, base-consts, ext-consts, challenges, alphas, sizeOf, Binary, plus, minus, times, Form, entry, cell, offset, binary, negation, embedding, Kind, base-slot, ext-slot, of, the-offset}
 

@@ -6,7 +6,7 @@ use Prim.Native.Nat.{ℕ}
 use Rattle.ir.specs.declared.frame.Shape.{Shape}
 use Rattle.ir.specs.declared.refusal.Outcome.{Outcome}
 use Rattle.ir.specs.Refusals.{saidOfOutcome}
-use Rattle.interp.specs.Frame.{Lent}
+use Rattle.values.specs.Frame.{Lent}
 use Rattle.device.specs.Blob.{Blob}
 use Rattle.device.specs.Check.{CheckAnswer}
 use Rattle.device.proofs.Single.{check-blob-single}

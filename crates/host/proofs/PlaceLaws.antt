@@ -20,11 +20,11 @@ use Rattle.ir.specs.Reads.{ReadsAnswer, columnsOf, readsRows, readsSaid}
 use Rattle.ir.specs.Refusals.{Said, Row, rowAt, foundAt, first, gives}
 use Rattle.ir.proofs.ProgramLaws.{few, few-roots}
 use Rattle.interp.specs.declared.frame.Lengths.{Lengths}
-use Rattle.interp.specs.declared.frame.Limits.{Limits}
+use Rattle.values.specs.declared.frame.Limits.{Limits}
 use Rattle.field.specs.Tower.{goldilocks}
-use Rattle.interp.specs.Values.{values}
+use Rattle.values.specs.Values.{values}
 use Rattle.interp.specs.Evals.{baseWord}
-use Rattle.interp.specs.Frame.{Lent, leaves, rowStrides, nodeOutside, frameLimits, rowLimits}
+use Rattle.values.specs.Frame.{Lent, leaves, rowStrides, nodeOutside, frameLimits, rowLimits}
 use Rattle.interp.specs.Evaluation.{memoryRows, formRows, extRoot, proverRest, proverRows, verifierRest, verifierRows, rowShape, askedRow, rowRest, rowRows, lengths, ProverAnswer, VerifierAnswer, RowAnswer}
 use Rattle.lower.specs.Lower.{blobOf}
 use Rattle.lower.specs.Answer.{Lists, Output, lowering, lowerRows, lowerSaid, countsOf}

@@ -12,7 +12,7 @@ use Rattle.ir.specs.Reads.{ReadsAnswer, saidOfColumns}
 use Rattle.ir.specs.Refusals.{saidOfOutcome}
 use Rattle.ir.proofs.Single.{next-row-trace-reads-single}
 use Rattle.interp.specs.declared.interp.Evaluated.{Evaluated}
-use Rattle.interp.specs.Frame.{Lent}
+use Rattle.values.specs.Frame.{Lent}
 use Rattle.interp.specs.Evaluation.{saidOfEvaluated, ProverAnswer, VerifierAnswer, RowAnswer}
 use Rattle.interp.proofs.Single.{eval-program-single, eval-program-verifier-single, eval-program-base-single}
 use Rattle.host.specs.ProgramCalls.{answerOf, Called, CalledBase, CalledReads, onDone}

@@ -2,7 +2,7 @@
 // place that it names.
 ghost use mathlib.Core.List.{[], _∷_};
 ghost use mathlib.Core.Path.{_≡_};
-ghost use Rattle.interp.specs.Frame.{lent};
+ghost use Rattle.values.specs.Frame.{lent};
 ghost use Rattle.device.specs.Check.{CheckAnswer};
 ghost use Rattle.walk.specs.Walk.{WalkAnswer};
 ghost use Rattle.host.specs.ProgramCalls.{shape, Called};

@@ -6,7 +6,7 @@ ghost use Prim.Native.Nat.{_+_, _*_, _%_};
 ghost use Rattle.ir.specs.Refusals.{saidOf, saidOfOutcome};
 ghost use Rattle.ir.specs.Program.{checked};
 ghost use Rattle.ir.specs.Reads.{ReadsAnswer};
-ghost use Rattle.interp.specs.Frame.{lent, rowLent};
+ghost use Rattle.values.specs.Frame.{lent, rowLent};
 ghost use Rattle.interp.specs.Evaluation.{ProverAnswer, VerifierAnswer, RowAnswer};
 ghost use Rattle.host.specs.ProgramCalls.{answerOf, counts, shape, Called, CalledBase, CalledReads};
 use field::extensions_goldilocks::Ext;

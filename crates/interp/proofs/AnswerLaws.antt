@@ -19,20 +19,20 @@ use Rattle.ir.specs.declared.refusal.Outcome.the-variants.{Done, Refused}
 use Rattle.ir.specs.Program.{numBase}
 use Rattle.ir.specs.Refusals.{Said, Row, row, rowAt, gives, saidOf, saidOfOutcome, first, anyHolds}
 use Rattle.ir.proofs.RefusalLaws.{numbered, done-rows, loud-rows, first-any, first-none}
-use Rattle.interp.specs.declared.frame.Limits.{Limits}
+use Rattle.values.specs.declared.frame.Limits.{Limits}
 use Rattle.interp.specs.declared.frame.Lengths.{Lengths}
-use Rattle.interp.specs.declared.frame.Strides.{Strides}
-use Rattle.interp.specs.Values.{Value}
-use Rattle.interp.specs.Frame.{Lent, proverStrides, verifierStrides, rowStrides, frameLimits, rowLimits}
-use Rattle.interp.specs.Operations.{Ready}
+use Rattle.values.specs.declared.frame.Strides.{Strides}
+use Rattle.values.specs.Values.{Value}
+use Rattle.values.specs.Frame.{Lent, proverStrides, verifierStrides, rowStrides, frameLimits, rowLimits}
+use Rattle.values.specs.Operations.{Ready}
 use Rattle.field.specs.Base.{Least}
 use Rattle.interp.specs.declared.interp.Evaluated.the-variants.{Base, Rejected}
 use Rattle.interp.specs.Evals.{baseWord}
-use Rattle.interp.specs.Room.{RoomHolds}
+use Rattle.values.specs.Room.{RoomHolds}
 use Rattle.interp.specs.Writes.{RootIn, RootsIn, Completes}
 use Rattle.interp.specs.Evaluation.{memoryRows, formRows, shortEvals, extRoot, proverRest, proverRows, verifierRest, verifierRows, rowShape, askedRow, rowRest, rowRows, lengths, Evaluates, VerifierEvaluates, RowEvaluates}
 use Rattle.interp.proofs.EvalLaws.{word-is}
-use Rattle.interp.proofs.ReadyLaws.{ready, prover-fits, verifier-fits, row-fits}
+use Rattle.values.proofs.ReadyLaws.{ready, prover-fits, verifier-fits, row-fits}
 use Rattle.interp.proofs.RefuseLaws.{MemoryOk, memory-ok, FormOk, form-ok}
 
 -- ---- the promise, refused and done

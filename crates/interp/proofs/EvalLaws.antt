@@ -17,12 +17,12 @@ use Rattle.field.specs.Ext.{limb, LeastLimbs}
 use Rattle.field.specs.Tower.{goldilocks, remainders}
 use Rattle.field.proofs.Laws.{least-exact}
 use Rattle.field.proofs.ExtLaws.{least-limbs-exact}
-use Rattle.interp.specs.Values.{Value, toExt}
+use Rattle.values.specs.Values.{Value, toExt}
 use Rattle.interp.specs.Evals.{baseWord, extWords, baseEvals, extEvals}
-use Rattle.interp.specs.Room.{RoomHolds}
+use Rattle.values.specs.Room.{RoomHolds}
 use Rattle.interp.specs.Writes.{WritesRoot, WritesRoots, Completes}
-use Rattle.interp.specs.Operations.{StandsIn}
-use Rattle.interp.proofs.OperationLaws.{first-word, limb-words}
+use Rattle.values.specs.Operations.{StandsIn}
+use Rattle.values.proofs.OperationLaws.{first-word, limb-words}
 
 pub word-is : (room : List ℕ) (root r : ℕ) (v : Value ℕ (List ℕ)) → Least (getD room (4 * root + 1) 0) r → StandsIn room v root → r ≡ baseWord v
 unfolding remainders

@@ -7,7 +7,7 @@ use Prim.Native.Nat.{ℕ}
 use Rattle.ir.specs.declared.program.Counts.{Counts}
 use Rattle.ir.specs.declared.frame.Shape.{Shape}
 use Rattle.ir.specs.Refusals.{inOrder, programOrder}
-use Rattle.interp.specs.declared.frame.Limits.{Limits}
+use Rattle.values.specs.declared.frame.Limits.{Limits}
 use Rattle.interp.specs.declared.frame.Lengths.{Lengths}
 use Rattle.interp.specs.Evaluation.{proverRows, verifierRows, rowRows}
 

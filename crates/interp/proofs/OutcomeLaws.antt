@@ -11,7 +11,7 @@ use Rattle.ir.specs.declared.refusal.Outcome.{Outcome}
 use Rattle.ir.specs.declared.refusal.Outcome.the-variants.{Done, Refused}
 use Rattle.ir.specs.Refusals.{Said, Row, gives, saidOf, saidOfOutcome, first, anyHolds}
 use Rattle.ir.proofs.RefusalLaws.{refused-rows, done-rows, first-quiet}
-use Rattle.interp.specs.declared.frame.Limits.{Limits}
+use Rattle.values.specs.declared.frame.Limits.{Limits}
 use Rattle.interp.specs.declared.frame.Lengths.{Lengths}
 use Rattle.interp.specs.Evaluation.{memoryRows, formRows, TablesOk, RootsBelow}
 use Rattle.interp.proofs.RefuseLaws.{MemoryOk, memory-ok, FormOk, form-ok}

@@ -19,8 +19,8 @@ use Rattle.ir.specs.WellFormed.{WellFormed}
 use Rattle.ir.proofs.ProgramLaws.{Long, long}
 use Rattle.ir.proofs.RefusalLaws.{not-found}
 use Rattle.ir.proofs.WellFormedLaws.{well-formed}
-use Rattle.interp.specs.declared.frame.Limits.{Limits}
-use Rattle.interp.specs.Frame.{nodeOutside}
+use Rattle.values.specs.declared.frame.Limits.{Limits}
+use Rattle.values.specs.Frame.{nodeOutside}
 use Rattle.interp.specs.declared.frame.Lengths.{Lengths}
 use Rattle.interp.specs.Evaluation.{shortFrame, shortMemory, memoryRows, formRows}
 

@@ -23,9 +23,9 @@ use Rattle.ir.specs.Refusals.{Said, Row, anyHolds}
 use Rattle.ir.proofs.Single.{refusalOf, known, outcome-single}
 use Rattle.interp.specs.declared.interp.Evaluated.{Evaluated}
 use Rattle.interp.specs.declared.interp.Evaluated.the-variants.{Base, Rejected}
-use Rattle.interp.specs.Values.{Value, toExt}
-use Rattle.interp.specs.Frame.{Lent}
-use Rattle.interp.specs.Room.{Kept, RoomHolds}
+use Rattle.values.specs.Values.{Value, toExt}
+use Rattle.values.specs.Frame.{Lent}
+use Rattle.values.specs.Room.{Kept, RoomHolds}
 use Rattle.interp.specs.Evaluation.{saidOfEvaluated, Evaluates, VerifierEvaluates, RowEvaluates, ProverAnswer, VerifierAnswer, RowAnswer}
 
 -- words below p that stand for one element are one word

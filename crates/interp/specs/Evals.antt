@@ -8,7 +8,7 @@ use lib.ListN.{getD, set}
 use lib.Seq.{sets}
 use Rattle.field.specs.Ext.{limb}
 use Rattle.field.specs.Tower.{goldilocks, remainders}
-use Rattle.interp.specs.Values.{Value, toExt}
+use Rattle.values.specs.Values.{Value, toExt}
 
 -- a value as three words
 abbrev pub extWords : Value ℕ (List ℕ) → List ℕ

@@ -16,14 +16,14 @@ use Rattle.ir.specs.Words.{nodeAt}
 use Rattle.ir.specs.Program.{numBase, tooManyNodes, tooManyRoots, shortTables, illFormed}
 use Rattle.ir.specs.Shape.{overShape}
 use Rattle.ir.specs.Refusals.{Said, Row, row, rowAt, first, anyHolds, gives, saidOf, saidOfOutcome}
-use Rattle.interp.specs.declared.frame.Limits.{Limits}
+use Rattle.values.specs.declared.frame.Limits.{Limits}
 use Rattle.interp.specs.declared.frame.Lengths.{Lengths}
 use Rattle.interp.specs.declared.interp.Evaluated.{Evaluated}
 use Rattle.interp.specs.declared.interp.Evaluated.the-variants.{Base, Rejected}
-use Rattle.interp.specs.Values.{Value, values}
-use Rattle.interp.specs.Frame.{Lent, leaves, nodeOutside, proverStrides, verifierStrides, rowStrides, frameLimits, rowLimits}
+use Rattle.values.specs.Values.{Value, values}
+use Rattle.values.specs.Frame.{Lent, leaves, nodeOutside, proverStrides, verifierStrides, rowStrides, frameLimits, rowLimits}
 use Rattle.interp.specs.Evals.{baseWord, baseEvals, extEvals}
-use Rattle.interp.specs.Room.{RoomHolds}
+use Rattle.values.specs.Room.{RoomHolds}
 
 -- ---- rows that the evaluators share
 

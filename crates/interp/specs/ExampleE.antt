@@ -13,8 +13,8 @@ use Rattle.ir.specs.declared.frame.Shape.{Shape}
 use Rattle.ir.specs.Program.{Program, numBase, tooManyNodes, tooManyRoots, shortTables, varOk, leafOk, operationOk, nodeOk, illFormed, checked}
 use Rattle.ir.specs.Refusals.{Row, first, gives}
 use Rattle.ir.specs.Shape.{overShape}
-use Rattle.interp.specs.Values.{Value, leafValue, operationValue, nodeValue, values}
-use Rattle.interp.specs.Frame.{Lent, lent, leaves, cellOutside, outside, proverStrides, frameLimits}
+use Rattle.values.specs.Values.{Value, leafValue, operationValue, nodeValue, values}
+use Rattle.values.specs.Frame.{Lent, lent, leaves, cellOutside, outside, proverStrides, frameLimits}
 use Rattle.interp.specs.Evals.{baseEvals, extEvals}
 use Rattle.interp.specs.Evaluation.{shortFrame, shortMemory, shortEvals, extRoot, proverRows, lengths}
 

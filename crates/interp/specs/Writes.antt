@@ -7,10 +7,10 @@ use Prim.Native.Nat.{ℕ, _+_, _*_, _<_, _≤_}
 use lib.Dec.{ltb}
 use lib.ListN.{length, getD, set}
 use lib.Seq.{sets}
-use Rattle.interp.specs.Values.{Value}
+use Rattle.values.specs.Values.{Value}
 use Rattle.interp.specs.Evals.{baseWord, extWords, baseEvals, extEvals}
-use Rattle.interp.specs.Room.{RoomHolds}
-use Rattle.interp.specs.Operations.{StandsIn}
+use Rattle.values.specs.Room.{RoomHolds}
+use Rattle.values.specs.Operations.{StandsIn}
 
 -- what one root asks
 pub record RootIn (c leading root room bases exts : ℕ) : Type 0 where

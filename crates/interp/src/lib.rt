@@ -3,7 +3,3 @@ pub mod evals;
 pub mod frame;
 pub mod interp;
 pub mod refuse;
-pub mod run;
-pub mod step;
-pub mod trial;
-pub mod value;

@@ -10,11 +10,10 @@ ghost use Rattle.ir.specs.Words.{nodeAt};
 ghost use Rattle.ir.specs.Program.{tooManyNodes, tooManyRoots};
 ghost use Rattle.ir.specs.Shape.{overShape};
 ghost use Rattle.ir.specs.Refusals.{placeOf, saidOfOutcome, first, gives};
-ghost use Rattle.interp.specs.Frame.{cellOutside, outside, nodeOutside};
+ghost use Rattle.values.specs.Frame.{cellOutside, outside, nodeOutside};
 ghost use Rattle.interp.specs.Evaluation.{shortFrame, shortMemory, memoryRows, formRows, shortEvals, extRoot, TablesOk, RootsBelow};
-ghost use Rattle.interp.specs.Trial.{RootsFit};
+ghost use Rattle.interp.specs.Attempt.{RootsFit};
 use super::frame::Lengths;
-use super::frame::Limits;
 use ir::frame::Shape;
 use ir::frame::over_shape;
 use ir::node::OP_ALPHA_POW;
@@ -30,6 +29,7 @@ use ir::program::too_many_roots;
 use ir::refusal::Outcome;
 use ir::refusal::Place;
 use ir::refusal::Refusal;
+use values::frame::Limits;
 
 // Whether the frame is shorter than its shape says; the products are small once the shape is within its limits.
 fn short_frame(s: Shape, limbs: usize, l: Lengths) -> bool

@@ -25,8 +25,8 @@ use Rattle.ir.specs.declared.program.Counts.{Counts}
 use Rattle.ir.specs.declared.frame.Shape.{Shape}
 use Rattle.ir.specs.Words.{Node, nodeAt, mainOf, offsetOf}
 use Rattle.ir.specs.WellFormed.{NodeFacts, WellFormed}
-use Rattle.interp.specs.Values.{Value, base, ext, Leaves, leafValue}
-use Rattle.interp.specs.Frame.{Lent, word, triple, leaves, outside, cellOutside, nodeOutside, proverStrides, frameLimits}
+use Rattle.values.specs.Values.{Value, base, ext, Leaves, leafValue}
+use Rattle.values.specs.Frame.{Lent, word, triple, leaves, outside, cellOutside, nodeOutside, proverStrides, frameLimits}
 use Rattle.device.specs.declared.blob.BlobCounts.{BlobCounts}
 use Rattle.walk.specs.Trace.{rowAt, contents}
 use Rattle.lower.specs.Answer.{over}

@@ -25,8 +25,8 @@ use Rattle.ir.specs.Words.{nodeAt}
 use Rattle.ir.specs.Program.{numBase}
 use Rattle.ir.specs.Refusals.{Said, first, gives}
 use Rattle.ir.specs.WellFormed.{WellFormed}
-use Rattle.interp.specs.Values.{Value}
-use Rattle.interp.proofs.RunLaws.{valueAt}
+use Rattle.values.specs.Values.{Value}
+use Rattle.values.proofs.RunLaws.{valueAt}
 use Rattle.device.specs.declared.blob.BlobCounts.{BlobCounts}
 use Rattle.device.specs.Blob.{Blob, instrAt, isExt, tags, kinds}
 use Rattle.device.specs.StepRule.{Contents, Slots, step, slotsAfter, rootHeld, rootValue, stopsAt}

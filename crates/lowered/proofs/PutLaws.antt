@@ -13,7 +13,7 @@ use Rattle.laws.specs.Maps.{upd}
 use Rattle.laws.specs.Options.{after, on1, onlyIf}
 use Rattle.field.specs.Tower.{Tower}
 use Rattle.ir.specs.declared.frame.Shape.{Shape}
-use Rattle.interp.specs.Values.{Value, base, ext, classOf}
+use Rattle.values.specs.Values.{Value, base, ext, classOf}
 use Rattle.device.specs.declared.blob.BlobCounts.{BlobCounts}
 use Rattle.device.specs.Blob.{Instr, instrAt, baseSlots, extSlots, isExt, slotOf, Form, Kind}
 use Rattle.device.specs.StepRule.{Contents, Slots, put, step, slotsAfter, rootHeld}

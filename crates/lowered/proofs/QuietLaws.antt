@@ -21,9 +21,9 @@ use Rattle.ir.specs.Program.{numBase, tooManyNodes, tooManyRoots, shortTables, 
 use Rattle.ir.specs.Shape.{overShape}
 use Rattle.ir.specs.Refusals.{Said, Row, found, anyHolds, gives}
 use Rattle.ir.proofs.RefusalLaws.{done-quiet, not-found}
-use Rattle.interp.specs.declared.frame.Limits.{Limits}
+use Rattle.values.specs.declared.frame.Limits.{Limits}
 use Rattle.interp.specs.declared.frame.Lengths.{Lengths}
-use Rattle.interp.specs.Frame.{Lent, nodeOutside, frameLimits}
+use Rattle.values.specs.Frame.{Lent, nodeOutside, frameLimits}
 use Rattle.interp.specs.Evaluation.{shortFrame, shortMemory, shortEvals, extRoot, rootDim, proverRows, lengths, ProverAnswer}
 
 -- where 12 is not given, a root below num_base is base

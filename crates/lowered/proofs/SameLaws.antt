@@ -16,7 +16,7 @@ use Rattle.laws.proofs.Cases.{by-test}
 use Rattle.field.specs.Tower.{Tower}
 use Rattle.ir.specs.declared.frame.Shape.{Shape}
 use Rattle.ir.specs.Words.{Node, nodeAt}
-use Rattle.interp.specs.Values.{Value, Leaves, leafValue, nodeValue, values}
+use Rattle.values.specs.Values.{Value, Leaves, leafValue, nodeValue, values}
 use Rattle.interp.specs.Evals.{baseWord, extWords, baseEvals, extEvals}
 use Rattle.device.specs.declared.blob.BlobCounts.{BlobCounts}
 use Rattle.device.specs.Blob.{Instr, instrAt, Form, Kind}

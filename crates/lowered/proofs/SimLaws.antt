@@ -18,9 +18,9 @@ use Rattle.ir.specs.declared.frame.Shape.{Shape}
 use Rattle.ir.specs.Words.{Node, nodeAt}
 use Rattle.ir.specs.Program.{joined}
 use Rattle.ir.specs.WellFormed.{NodeFacts, WellFormed}
-use Rattle.interp.specs.Values.{Value, base, ext, classOf, toExt, binop, unop, leafValue, operationValue, nodeValue, values}
-use Rattle.interp.proofs.ClassLaws.{class-is-dim}
-use Rattle.interp.proofs.RunLaws.{valueAt, value-stays, value-computed}
+use Rattle.values.specs.Values.{Value, base, ext, classOf, toExt, binop, unop, leafValue, operationValue, nodeValue, values}
+use Rattle.values.proofs.ClassLaws.{class-is-dim}
+use Rattle.values.proofs.RunLaws.{valueAt, value-stays, value-computed}
 use Rattle.device.specs.declared.blob.BlobCounts.{BlobCounts}
 use Rattle.device.specs.Blob.{Instr, isExt, Binary, plus, minus, times, binary, tags, kinds}
 use Rattle.device.specs.StepRule.{Contents, Slots, operand, op₀, op₁, valueOf, step, slotsAfter, rootHeld}

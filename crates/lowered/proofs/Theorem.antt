@@ -27,12 +27,12 @@ use Rattle.ir.proofs.ProgramLaws.{few, long}
 use Rattle.ir.proofs.RefusalLaws.{done-quiet, first-none}
 use Rattle.ir.proofs.Single.{outcome-single}
 use Rattle.ir.proofs.WellFormedLaws.{well-formed}
-use Rattle.interp.specs.Values.{Value, values}
-use Rattle.interp.specs.Frame.{Lent, leaves, proverStrides, nodeOutside, frameLimits}
+use Rattle.values.specs.Values.{Value, values}
+use Rattle.values.specs.Frame.{Lent, leaves, proverStrides, nodeOutside, frameLimits}
 use Rattle.interp.specs.Evals.{baseEvals, extEvals}
 use Rattle.interp.specs.Evaluation.{lengths, ProverAnswer}
 use Rattle.interp.specs.Evaluation as Evaluation
-use Rattle.interp.proofs.RunLaws.{valueAt, value-stays}
+use Rattle.values.proofs.RunLaws.{valueAt, value-stays}
 use Rattle.device.specs.declared.blob.BlobCounts.{BlobCounts}
 use Rattle.device.specs.Blob.{Blob, instrAt, tags, kinds}
 use Rattle.device.specs.StepRule.{Contents, Slots, slotsAfter, rootHeld}

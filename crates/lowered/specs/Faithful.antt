@@ -16,8 +16,8 @@ use Rattle.ir.specs.declared.refusal.Outcome.{Outcome}
 use Rattle.ir.specs.declared.refusal.Outcome.the-variants.{Done}
 use Rattle.ir.specs.Program.{Program, numBase, tooManyNodes, illFormed}
 use Rattle.ir.specs.Refusals.{first, gives}
-use Rattle.interp.specs.Values.{Value, base, Leaves, values}
-use Rattle.interp.specs.Frame.{Lent, lent, leaves, proverStrides, nodeOutside, frameLimits}
+use Rattle.values.specs.Values.{Value, base, Leaves, values}
+use Rattle.values.specs.Frame.{Lent, lent, leaves, proverStrides, nodeOutside, frameLimits}
 use Rattle.interp.specs.Evals.{baseEvals, extEvals}
 use Rattle.interp.specs.Evaluation.{shortEvals, extRoot, ProverAnswer}
 use Rattle.device.specs.declared.blob.BlobCounts.{BlobCounts}

@@ -19,9 +19,9 @@ use Rattle.field.specs.Tower.{goldilocks, remainders}
 use Rattle.field.proofs.Laws.{_then_, reduced, add≈, mul≈, minus≈, stands}
 use Rattle.field.proofs.ExtLaws.{near-trans, limbs-stand, least-limbs, sums-near, minuses-near, product-near, remainders-near}
 use Rattle.ir.specs.declared.frame.Shape.{Shape}
-use Rattle.interp.specs.Values.{Value, base, ext}
-use Rattle.interp.specs.Room.{ValueIs}
-use Rattle.interp.proofs.ValueLaws.{base-is, ext-is}
+use Rattle.values.specs.Values.{Value, base, ext}
+use Rattle.values.specs.Room.{ValueIs}
+use Rattle.values.proofs.ValueLaws.{base-is, ext-is}
 use Rattle.device.specs.declared.blob.BlobCounts.{BlobCounts}
 use Rattle.device.specs.Blob.{isExt, Binary, plus, minus, times, Form, binary, negation, embedding, tags, kinds}
 use Rattle.device.specs.StepRule.{Contents, Slots, baseOperand, extOperand, op₀, op₁, valueOf}

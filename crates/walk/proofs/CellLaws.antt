@@ -16,9 +16,9 @@ use Rattle.laws.proofs.Options.{only-some}
 use Rattle.laws.proofs.Tests.{and-left, and-right}
 use Rattle.ir.specs.declared.frame.Shape.{Shape}
 use Rattle.ir.specs.Words.{mainOf, offsetOf, rowOf}
-use Rattle.interp.specs.Values.{Value, base, ext}
-use Rattle.interp.specs.Frame.{word, triple}
-use Rattle.interp.specs.Room.{ValueIs}
+use Rattle.values.specs.Values.{Value, base, ext}
+use Rattle.values.specs.Frame.{word, triple}
+use Rattle.values.specs.Room.{ValueIs}
 use Rattle.device.specs.StepRule.{Contents, cellOf}
 use Rattle.device.specs.Check.{cellOk}
 use Rattle.walk.specs.Trace.{rowAt}

@@ -14,9 +14,9 @@ use Rattle.laws.proofs.Tests.{and-left}
 use Rattle.field.specs.Tower.{goldilocks, remainders}
 use Rattle.ir.specs.declared.frame.Shape.{Shape}
 use Rattle.ir.specs.Words.{mainOf}
-use Rattle.interp.specs.Values.{Value, base, ext}
-use Rattle.interp.specs.Frame.{word, triple}
-use Rattle.interp.specs.Room.{ValueIs}
+use Rattle.values.specs.Values.{Value, base, ext}
+use Rattle.values.specs.Frame.{word, triple}
+use Rattle.values.specs.Room.{ValueIs}
 use Rattle.device.specs.declared.blob.BlobCounts.{BlobCounts}
 use Rattle.device.specs.Blob.{tags, kinds, base-consts, ext-consts, challenges, alphas, sizeOf}
 use Rattle.device.specs.StepRule.{Contents, Slots, cellOf, valueOf}

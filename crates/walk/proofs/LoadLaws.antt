@@ -19,8 +19,8 @@ use Rattle.field.specs.Tower.{goldilocks, remainders}
 use Rattle.field.proofs.Laws.{refl≈, equal, reduced, _then_}
 use Rattle.field.proofs.ExtLaws.{near-trans, limbs-near, embedded-near, remainders-near}
 use Rattle.ir.specs.declared.frame.Shape.{Shape}
-use Rattle.interp.specs.Values.{Value, base, ext, toExt}
-use Rattle.interp.specs.Frame.{word, triple}
+use Rattle.values.specs.Values.{Value, base, ext, toExt}
+use Rattle.values.specs.Frame.{word, triple}
 use Rattle.device.specs.declared.blob.BlobCounts.{BlobCounts}
 use Rattle.device.specs.Blob.{baseSlots, extSlots, kindOf, payloadOf, kinds, tags}
 use Rattle.device.specs.StepRule.{Contents, Slots, onlyBase, heldBy, operand, baseOperand, extOperand}

@@ -13,7 +13,7 @@ use Rattle.laws.specs.Options.{at}
 use Rattle.laws.proofs.Cases.{by-test}
 use Rattle.laws.proofs.Tests.{clash, and-left, and-right}
 use Rattle.ir.specs.declared.frame.Shape.{Shape}
-use Rattle.interp.specs.Room.{ValueIs}
+use Rattle.values.specs.Room.{ValueIs}
 use Rattle.device.specs.declared.blob.BlobCounts.{BlobCounts}
 use Rattle.device.specs.Blob.{isExt, slotOf, baseSlots, extSlots, tags, kinds}
 use Rattle.device.specs.Check.{Filled, slotIn, slotOfClass, operandOk, formOk, nodeOk}

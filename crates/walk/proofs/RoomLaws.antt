@@ -26,9 +26,9 @@ use Rattle.field.specs.Ext.{limb, embedded, Near, Limbs}
 use Rattle.field.specs.Tower.{goldilocks, remainders}
 use Rattle.field.proofs.Laws.{sym≈, equal, reduced, _then_}
 use Rattle.field.proofs.ExtLaws.{limbs-near, kept-limbs, near-trans, near-sym, remainders-near, limb-embedded}
-use Rattle.interp.specs.Values.{Value, base, ext, toExt}
-use Rattle.interp.specs.Room.{ValueIs}
-use Rattle.interp.proofs.OperationLaws.{base-word}
+use Rattle.values.specs.Values.{Value, base, ext, toExt}
+use Rattle.values.specs.Room.{ValueIs}
+use Rattle.values.proofs.OperationLaws.{base-word}
 use Rattle.device.specs.declared.blob.BlobCounts.{BlobCounts}
 use Rattle.device.specs.Blob.{baseSlots, extSlots, isExt, slotOf}
 use Rattle.device.specs.StepRule.{Slots, put}

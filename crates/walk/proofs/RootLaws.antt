@@ -20,7 +20,7 @@ use Rattle.field.specs.Base.{_≈_}
 use Rattle.field.specs.Ext.{limb, embedded, Near, Limbs, LeastLimbs}
 use Rattle.field.specs.Tower.{goldilocks, remainders}
 use Rattle.field.proofs.ExtLaws.{near-trans, limbs-stand, limbs-exact, least-limbs, embedded-near, remainders-near}
-use Rattle.interp.specs.Values.{Value, base, ext, toExt}
+use Rattle.values.specs.Values.{Value, base, ext, toExt}
 use Rattle.interp.specs.Evals.{baseWord, extWords, baseEvals, extEvals}
 use Rattle.device.specs.declared.blob.BlobCounts.{BlobCounts}
 use Rattle.device.specs.Blob.{baseSlots, extSlots, isExt, slotOf}

@@ -12,7 +12,7 @@ use Rattle.laws.proofs.Folds.{none-some}
 use Rattle.laws.proofs.Options.{after-some}
 use Rattle.field.specs.Tower.{goldilocks}
 use Rattle.ir.specs.declared.frame.Shape.{Shape}
-use Rattle.interp.specs.Frame.{Lent}
+use Rattle.values.specs.Frame.{Lent}
 use Rattle.device.specs.declared.blob.BlobCounts.{BlobCounts}
 use Rattle.device.specs.Blob.{Instr, instrAt, tags, kinds}
 use Rattle.device.specs.StepRule.{Slots, valueOf, put, step, slotsAfter}

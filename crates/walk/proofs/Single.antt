@@ -16,7 +16,7 @@ use Rattle.ir.specs.declared.frame.Shape.{Shape}
 use Rattle.ir.specs.declared.refusal.Outcome.{Outcome}
 use Rattle.ir.specs.Refusals.{inOrder, anyHolds}
 use Rattle.ir.proofs.Single.{outcome-single}
-use Rattle.interp.specs.Frame.{Lent}
+use Rattle.values.specs.Frame.{Lent}
 use Rattle.interp.proofs.Single.{one-word}
 use Rattle.device.specs.declared.blob.BlobCounts.{BlobCounts}
 use Rattle.device.specs.Blob.{Blob, baseSlots, extSlots}

@@ -31,8 +31,8 @@ use Rattle.ir.specs.Shape.{overShape}
 use Rattle.ir.specs.Refusals.{Said, Row, found, first, anyHolds, gives, saidOf, saidOfOutcome}
 use Rattle.ir.proofs.ProgramLaws.{within}
 use Rattle.ir.proofs.RefusalLaws.{not-found, numbered, done-rows, loud-rows, first-loud, first-quiet, first-none}
-use Rattle.interp.specs.Values.{Value}
-use Rattle.interp.specs.Frame.{Lent}
+use Rattle.values.specs.Values.{Value}
+use Rattle.values.specs.Frame.{Lent}
 use Rattle.interp.proofs.AnswerLaws.{any-append}
 use Rattle.interp.proofs.RefuseLaws.{cells-small}
 use Rattle.device.specs.declared.blob.BlobCounts.{BlobCounts}

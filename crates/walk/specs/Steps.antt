@@ -13,9 +13,9 @@ use Rattle.field.specs.Base.{p, _≈_}
 use Rattle.field.specs.Ext.{limb, Near}
 use Rattle.field.specs.Tower.{goldilocks, remainders}
 use Rattle.ir.specs.declared.frame.Shape.{Shape}
-use Rattle.interp.specs.Frame.{Lent, word, triple}
-use Rattle.interp.specs.Room.{ValueIs}
-use Rattle.interp.specs.Values.{Value}
+use Rattle.values.specs.Frame.{Lent, word, triple}
+use Rattle.values.specs.Room.{ValueIs}
+use Rattle.values.specs.Values.{Value}
 use Rattle.interp.specs.Evals.{baseWord, extWords, baseEvals, extEvals}
 use Rattle.device.specs.declared.blob.BlobCounts.{BlobCounts}
 use Rattle.device.specs.Blob.{Instr, instrAt, isExt, slotOf, baseSlots, extSlots, numBase, tags, kinds}

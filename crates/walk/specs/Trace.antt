@@ -4,7 +4,7 @@ use mathlib.Core.List.{List}
 use Prim.Native.Nat.{ℕ, _+_, _*_, _%_}
 use Rattle.field.specs.Tower.{remainders}
 use Rattle.ir.specs.declared.frame.Shape.{Shape}
-use Rattle.interp.specs.Frame.{Lent, word, triple}
+use Rattle.values.specs.Frame.{Lent, word, triple}
 use Rattle.device.specs.StepRule.{Contents}
 
 -- step s of row r is row (r + s) mod rows; a frame is row 0 of as many rows as it has steps

@@ -12,9 +12,9 @@ use Rattle.ir.specs.declared.frame.Shape.{Shape}
 use Rattle.ir.specs.declared.refusal.Outcome.{Outcome}
 use Rattle.ir.specs.Shape.{overShape}
 use Rattle.ir.specs.Refusals.{Said, Row, row, first, anyHolds, gives, saidOfOutcome}
-use Rattle.interp.specs.Values.{Value}
-use Rattle.interp.specs.Values as Values
-use Rattle.interp.specs.Frame.{Lent}
+use Rattle.values.specs.Values.{Value}
+use Rattle.values.specs.Values as Values
+use Rattle.values.specs.Frame.{Lent}
 use Rattle.interp.specs.Evals.{baseEvals, extEvals}
 use Rattle.device.specs.declared.blob.BlobCounts.{BlobCounts}
 use Rattle.device.specs.Blob.{Blob, baseSlots, extSlots, numBase, tags, kinds}

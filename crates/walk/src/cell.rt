@@ -6,10 +6,10 @@ ghost use lib.ListN.{length};
 ghost use Rattle.device.specs.Check.{cellOk};
 ghost use Rattle.walk.specs.Trace.{rowAt};
 ghost use Rattle.walk.specs.Steps.{mostCells, TraceLong, CellGives};
-use interp::value::Value;
-use interp::value::base_leaf;
-use interp::value::ext_leaf;
 use ir::frame::Shape;
+use values::value::Value;
+use values::value::base_leaf;
+use values::value::ext_leaf;
 
 // A trace's rows, and the one that is walked.
 pub struct Row {

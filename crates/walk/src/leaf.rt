@@ -6,16 +6,16 @@ use super::cell::Row;
 use super::cell::cell;
 use device::blob::BlobCounts;
 use field::extensions_goldilocks::Ext;
-use interp::value::Value;
-use interp::value::base_leaf;
-use interp::value::ext_leaf;
-use interp::value::offset_leaf;
 use ir::frame::Shape;
 use ir::node::OP_ALPHA_POW;
 use ir::node::OP_CONST_BASE;
 use ir::node::OP_CONST_EXT;
 use ir::node::OP_RAP_CHALLENGE;
 use ir::node::OP_VAR;
+use values::value::Value;
+use values::value::base_leaf;
+use values::value::ext_leaf;
+use values::value::offset_leaf;
 
 pub fn leaf(
     c: BlobCounts,

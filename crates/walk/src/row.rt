@@ -3,7 +3,7 @@ ghost use mathlib.Core.Bool.{true};
 ghost use mathlib.Core.Path.{_≡_};
 ghost use Prim.Native.Nat.{_+_, _*_, _≤_};
 ghost use lib.ListN.{length};
-ghost use Rattle.interp.specs.Frame.{lent};
+ghost use Rattle.values.specs.Frame.{lent};
 ghost use Rattle.device.specs.Blob.{instrAt};
 ghost use Rattle.device.specs.Check.{slotIn};
 ghost use Rattle.walk.specs.Slots.{slotWords};
@@ -16,11 +16,11 @@ use device::blob::BlobCounts;
 use device::blob::is_ext;
 use device::blob::slot_of;
 use field::extensions_goldilocks::Ext;
-use interp::value::BASE;
-use interp::value::EXT;
-use interp::value::Value;
 use ir::frame::Shape;
 use ir::node::OP_ADD;
+use values::value::BASE;
+use values::value::EXT;
+use values::value::Value;
 
 // An operation's value: base or extension, as its result word says.
 fn operation(

@@ -6,7 +6,7 @@ ghost use Prim.Native.Nat.{_≤_};
 ghost use lib.ListN.{length};
 ghost use Rattle.ir.specs.Shape.{overShape};
 ghost use Rattle.ir.specs.Refusals.{saidOfOutcome, first, gives};
-ghost use Rattle.interp.specs.Frame.{lent};
+ghost use Rattle.values.specs.Frame.{lent};
 ghost use Rattle.device.specs.Check.{cleared};
 ghost use Rattle.walk.specs.Steps.{RowReady, RowDone, FrameWalked};
 ghost use Rattle.walk.specs.Walk.{shortFrame, shortEvals, shortWalk, roomRows, WalkAnswer};

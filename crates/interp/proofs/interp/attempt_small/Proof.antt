@@ -1,7 +1,7 @@
 -- `attempt_small` meets its contract.
 -- Assumes nothing.
 use Rattle.interp.proofs.AttemptLaws.{prover-tryable, attempt-made, attempt-kept}
-use Rattle.interp.specs.Frame.{lent}
+use Rattle.values.specs.Frame.{lent}
 use borrow.Author.Tests.{not-false}
 use borrow.Author.Needs.{needs}
 use Rattle.interp.proofs.interp.attempt_small.Statement.{statement}

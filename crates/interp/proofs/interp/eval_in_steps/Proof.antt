@@ -2,7 +2,7 @@
 -- Assumes nothing.
 use Rattle.interp.proofs.AnswerLaws.{answer-refused, answer-done, prover-ok, prover-asked}
 use Rattle.interp.specs.Evaluation.{proverRows, lengths}
-use Rattle.interp.specs.Frame.{lent, frameLimits}
+use Rattle.values.specs.Frame.{lent, frameLimits}
 use Rattle.ir.proofs.RefusalLaws.{done-rows}
 use lib.ListN.{length}
 use mathlib.Core.Path.{refl}

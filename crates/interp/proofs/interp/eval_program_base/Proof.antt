@@ -2,7 +2,7 @@
 -- Assumes nothing.
 use Rattle.interp.proofs.AnswerLaws.{row-refused, row-done, row-ok}
 use Rattle.interp.specs.Evaluation.{rowRows, lengths}
-use Rattle.interp.specs.Frame.{rowLent, rowLimits}
+use Rattle.values.specs.Frame.{rowLent, rowLimits}
 use Rattle.ir.proofs.RefusalLaws.{done-rows}
 use native.Mathlib.Omega.{arith}
 use mathlib.Core.Path.{refl}

@@ -2,7 +2,7 @@
 -- Assumes nothing.
 use Rattle.interp.proofs.AnswerLaws.{verifier-refused, verifier-done, verifier-asked}
 use Rattle.interp.specs.Evaluation.{verifierRows, lengths}
-use Rattle.interp.specs.Frame.{lent, frameLimits}
+use Rattle.values.specs.Frame.{lent, frameLimits}
 use Rattle.ir.proofs.RefusalLaws.{done-rows}
 use lib.ListN.{length}
 use mathlib.Core.Path.{refl}

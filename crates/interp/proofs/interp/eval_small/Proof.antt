@@ -1,7 +1,7 @@
 -- `eval_small` meets its contract: the attempt's answer, or that of `eval_large`.
 -- Assumes nothing.
 use Rattle.interp.proofs.AttemptLaws.{attempt-roots, attempt-done}
-use Rattle.interp.specs.Frame.{lent}
+use Rattle.values.specs.Frame.{lent}
 use borrow.Author.Needs.{needs}
 use Rattle.interp.proofs.interp.eval_small.Statement.{statement}
 use Rattle.interp.proofs.interp.eval_small.Tie as tie

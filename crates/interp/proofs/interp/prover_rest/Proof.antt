@@ -2,7 +2,7 @@
 -- Assumes nothing.
 use Rattle.interp.proofs.OutcomeLaws.{form-refused, form-passed, form-on}
 use Rattle.interp.specs.Evaluation.{extRoot}
-use Rattle.interp.specs.Frame.{frameLimits}
+use Rattle.values.specs.Frame.{frameLimits}
 use Rattle.ir.specs.Refusals.{Row, rowAt}
 use mathlib.Core.Path.{_≡_, refl}
 use mathlib.Core.List.{List, [], _∷_}

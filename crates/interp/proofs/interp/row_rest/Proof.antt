@@ -2,7 +2,7 @@
 -- Assumes nothing.
 use Rattle.interp.proofs.OutcomeLaws.{form-refused, form-passed, form-on}
 use Rattle.interp.specs.Evaluation.{askedRow}
-use Rattle.interp.specs.Frame.{rowLimits}
+use Rattle.values.specs.Frame.{rowLimits}
 use borrow.Author.Tests.{le-leb, lt-leb}
 use native.Mathlib.Omega.{arith}
 use mathlib.Core.List.{List, [], _∷_}

@@ -2,7 +2,7 @@
 -- Assumes nothing.
 use Rattle.interp.proofs.OutcomeLaws.{memory-refused, memory-on, tables-ok}
 use Rattle.interp.specs.Evaluation.{verifierRest}
-use Rattle.interp.specs.Frame.{frameLimits}
+use Rattle.values.specs.Frame.{frameLimits}
 use mathlib.Core.Path.{sym, _∙_}
 use mathlib.Core.List.{[]}
 use borrow.Author.Needs.{needs}

@@ -1,7 +1,7 @@
 -- `cell_outside` meets its contract.
 -- Assumes nothing.
-use Rattle.interp.proofs.ValueLaws.{main-mark, aux-mark}
-use Rattle.interp.specs.Frame.{cellOutside}
+use Rattle.values.proofs.ValueLaws.{main-mark, aux-mark}
+use Rattle.values.specs.Frame.{cellOutside}
 use borrow.Author.Tests.{le-leb, lt-leb}
 use borrow.Author.Needs.{needs}
 use Rattle.interp.proofs.refuse.cell_outside.Statement.{statement}

@@ -1,6 +1,6 @@
 -- `leaf_outside` meets its contract.
 -- Assumes nothing.
-use Rattle.interp.specs.Frame.{outside}
+use Rattle.values.specs.Frame.{outside}
 use borrow.Author.Tests.{ne-eqb}
 use borrow.Author.Needs.{needs}
 use Rattle.interp.proofs.refuse.leaf_outside.Statement.{statement}

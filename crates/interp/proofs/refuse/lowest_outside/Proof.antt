@@ -1,7 +1,7 @@
 -- `lowest_outside` meets its contract: no leaf below i is outside.
 -- Assumes nothing.
 use borrow.Author.Needs.{needs}
-use Rattle.interp.specs.Frame.{nodeOutside}
+use Rattle.values.specs.Frame.{nodeOutside}
 use Rattle.laws.proofs.Folds.{lowest-start, lowest-on, lowest-at, lowest-stays}
 use Rattle.laws.specs.Folds.{lowest}
 use native.Mathlib.Omega.{arith}

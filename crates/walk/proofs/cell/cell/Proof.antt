@@ -1,6 +1,6 @@
 use borrow.Author.Needs.{needs}
 use Rattle.walk.proofs.CellLaws.{cell-in, main-gives, aux-gives}
-use Rattle.interp.proofs.ValueLaws.{main-mark, aux-mark}
+use Rattle.values.proofs.ValueLaws.{main-mark, aux-mark}
 use native.Mathlib.Omega.{arith}
 use Prim.Native.Nat.{_<_}
 use mathlib.Core.Path.{_≡_}
@@ -8,8 +8,8 @@ use Rattle.walk.proofs.cell.cell.Statement.{statement}
 use Rattle.walk.proofs.cell.cell.Tie as tie
 use Rattle.walk.proofs.cell.cell.Reads as reads
 use Rattle.walk.proofs.cell.cell.Lts as lts
-use Rattle.interp.proofs.value.base_leaf.Reads as base-leaf-reads
-use Rattle.interp.proofs.value.ext_leaf.Reads as ext-leaf-reads
+use Rattle.values.proofs.value.base_leaf.Reads as base-leaf-reads
+use Rattle.values.proofs.value.ext_leaf.Reads as ext-leaf-reads
 use Rattle.walk.proofs.cell.cell_place.Reads as cell-place-reads
 
 -- src/cell.rt:40:16

@@ -6,9 +6,9 @@ use Rattle.walk.proofs.leaf.leaf.Statement.{statement}
 use Rattle.walk.proofs.leaf.leaf.Tie as tie
 use Rattle.walk.proofs.leaf.leaf.Reads as reads
 use Rattle.walk.proofs.leaf.leaf.Lts as lts
-use Rattle.interp.proofs.value.base_leaf.Reads as base-leaf-reads
-use Rattle.interp.proofs.value.ext_leaf.Reads as ext-leaf-reads
-use Rattle.interp.proofs.value.offset_leaf.Reads as offset-leaf-reads
+use Rattle.values.proofs.value.base_leaf.Reads as base-leaf-reads
+use Rattle.values.proofs.value.ext_leaf.Reads as ext-leaf-reads
+use Rattle.values.proofs.value.offset_leaf.Reads as offset-leaf-reads
 use Rattle.walk.proofs.cell.cell.Reads as cell-reads
 
 -- src/leaf.rt:40:36

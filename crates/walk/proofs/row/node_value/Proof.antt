@@ -1,7 +1,7 @@
 use borrow.Author.Needs.{needs}
 use Rattle.walk.proofs.RowLaws.{leaf-node, operation-node}
 use Rattle.walk.specs.Steps.{instr}
-use Rattle.interp.specs.Frame.{lent}
+use Rattle.values.specs.Frame.{lent}
 use Rattle.walk.proofs.row.node_value.Statement.{statement}
 use Rattle.walk.proofs.row.node_value.Tie as tie
 use Rattle.walk.proofs.row.node_value.Reads as reads

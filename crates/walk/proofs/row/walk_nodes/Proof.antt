@@ -4,7 +4,7 @@ use Prim.Native.Nat.{_≤_, _-_}
 use mathlib.Core.Path.{_≡_}
 use native.Mathlib.Omega.{arith}
 use borrow.Author.Needs.{needs}
-use Rattle.interp.specs.Frame.{lent}
+use Rattle.values.specs.Frame.{lent}
 use Rattle.walk.specs.Steps.{RowWalked}
 use Rattle.walk.proofs.RowLaws.{walked-none, walked-more}
 use Rattle.walk.proofs.row.walk_nodes.Statement.{statement}

@@ -1,7 +1,7 @@
 use borrow.Author.Needs.{needs}
 use Rattle.walk.proofs.WalkLaws.{blobOf, room-ok, row-ready, legal-done, walk-refused, walk-illegal, walk-done}
 use Rattle.walk.specs.Walk.{memoryRows}
-use Rattle.interp.specs.Frame.{lent}
+use Rattle.values.specs.Frame.{lent}
 use Rattle.ir.proofs.RefusalLaws.{done-rows}
 use lib.ListN.{length}
 use mathlib.Core.Path.{refl}

@@ -1,6 +1,6 @@
 use borrow.Author.Needs.{needs}
 use Rattle.walk.proofs.WalkLaws.{row-done}
-use Rattle.interp.specs.Frame.{lent}
+use Rattle.values.specs.Frame.{lent}
 use Rattle.walk.proofs.walk.walk_row.Statement.{statement}
 use Rattle.walk.proofs.walk.walk_row.Tie as tie
 use Rattle.walk.proofs.walk.walk_row.Reads as reads

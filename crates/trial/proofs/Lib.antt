@@ -1,0 +1,3 @@
+-- Laws of the trial.
+pub mod StepLaws
+pub mod TrialLaws

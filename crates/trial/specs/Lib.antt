@@ -1,0 +1,3 @@
+-- What the trial's contracts cite.
+pub mod Step
+pub mod Trial
