@@ -23,19 +23,19 @@ unpack64-requires-4 c κs = search needs
 
 -- src/walking.rt:57:1
 same-length : tie.Need-same-length
-same-length c = search needs
+same-length c = c .before .before .before .before .before .before .before .before .before .before .before .before .before .before .unpack64 .kept .1 .0
 
 -- src/walking.rt:57:1
 same-length-2 : tie.Need-same-length-2
-same-length-2 c = search needs
+same-length-2 c = c .before .before .before .before .before .before .before .before .before .before .unpack642 .kept .1 .0
 
 -- src/walking.rt:57:1
 same-length-3 : tie.Need-same-length-3
-same-length-3 c = search needs
+same-length-3 c = c .before .before .before .before .before .before .unpack643 .kept .1 .0
 
 -- src/walking.rt:57:1
 same-length-4 : tie.Need-same-length-4
-same-length-4 c = search needs
+same-length-4 c = c .before .before .unpack644 .kept .1 .0
 
 -- src/walking.rt:57:1
 returns : tie.Need-returns

@@ -1,7 +1,7 @@
 use Rattle.bytewise.proofs.WalkLaws.{frame-fits, evals-fit, still-fits, frame-short, evals-short, bytes-done}
 use Rattle.bytewise.proofs.AnswerLaws.{front-long}
 use Rattle.bytewise.specs.Walking.{Frame, Memory}
-use mathlib.Core.Path.{sym, _∙_}
+use mathlib.Core.Path.{refl, sym, _∙_}
 use borrow.Author.Needs.{needs}
 use Rattle.bytewise.proofs.walking.walk_bytes.Statement.{statement}
 use Rattle.bytewise.proofs.walking.walk_bytes.Tie as tie
@@ -18,19 +18,19 @@ short-frame-rooms-requires c κs = search needs
 
 -- src/walking.rt:209:9
 same-length : tie.Need-same-length
-same-length c = search needs
+same-length c = refl
 
 -- src/walking.rt:209:9
 same-length-2 : tie.Need-same-length-2
-same-length-2 c = search needs
+same-length-2 c = refl
 
 -- src/walking.rt:209:9
 same-length-3 : tie.Need-same-length-3
-same-length-3 c = search needs
+same-length-3 c = refl
 
 -- src/walking.rt:209:9
 same-length-4 : tie.Need-same-length-4
-same-length-4 c = search needs
+same-length-4 c = refl
 
 -- src/walking.rt:209:9
 returns : tie.Need-returns
@@ -42,35 +42,35 @@ short-eval-rooms-requires c κs = search needs
 
 -- src/walking.rt:212:9
 same-length-5 : tie.Need-same-length-5
-same-length-5 c = search needs
+same-length-5 c = refl
 
 -- src/walking.rt:212:9
 same-length-6 : tie.Need-same-length-6
-same-length-6 c = search needs
+same-length-6 c = refl
 
 -- src/walking.rt:212:9
 same-length-7 : tie.Need-same-length-7
-same-length-7 c = search needs
+same-length-7 c = refl
 
 -- src/walking.rt:212:9
 same-length-8 : tie.Need-same-length-8
-same-length-8 c = search needs
+same-length-8 c = refl
 
 -- src/walking.rt:212:9
 same-length-9 : tie.Need-same-length-9
-same-length-9 c = search needs
+same-length-9 c = refl
 
 -- src/walking.rt:212:9
 same-length-10 : tie.Need-same-length-10
-same-length-10 c = search needs
+same-length-10 c = refl
 
 -- src/walking.rt:212:9
 same-length-11 : tie.Need-same-length-11
-same-length-11 c = search needs
+same-length-11 c = refl
 
 -- src/walking.rt:212:9
 same-length-12 : tie.Need-same-length-12
-same-length-12 c = search needs
+same-length-12 c = refl
 
 -- src/walking.rt:212:9
 returns-2 : tie.Need-returns-2
@@ -118,43 +118,43 @@ walk-evals-requires c κs = let a = c .before .before .before .before .before .b
 
 -- src/walking.rt:174:1
 same-length-13 : tie.Need-same-length-13
-same-length-13 c = search needs
+same-length-13 c = c .before .before .before .before .before .before .before .before .before .before .before .before .walk-evals .kept .1 .1 .1 .1 .1 .1 .1 .1 .1 .1 .1 .0
 
 -- src/walking.rt:174:1
 same-length-14 : tie.Need-same-length-14
-same-length-14 c = search needs
+same-length-14 c = c .before .before .before .before .before .before .before .before .before .before .before .before .walk-evals .kept .1 .1 .1 .1 .1 .1 .1 .1 .1 .1 .1 .1 .0
 
 -- src/walking.rt:174:1
 same-length-15 : tie.Need-same-length-15
-same-length-15 c = search needs
+same-length-15 c = c .before .before .before .before .before .before .before .before .before .before .before .before .before .before .before .before .before .before .before .before .before .before .before .before .before .before .before .before .before .before .before .unpack-frame .kept .1 .1 .1 .1 .0
 
 -- src/walking.rt:174:1
 same-length-16 : tie.Need-same-length-16
-same-length-16 c = search needs
+same-length-16 c = c .before .before .before .before .before .before .before .before .before .before .before .before .before .before .before .before .before .before .before .before .before .before .before .before .before .before .before .before .before .before .before .unpack-frame .kept .1 .1 .1 .1 .1 .0
 
 -- src/walking.rt:174:1
 same-length-17 : tie.Need-same-length-17
-same-length-17 c = search needs
+same-length-17 c = c .before .before .before .before .before .before .before .before .before .before .before .before .before .before .before .before .before .before .before .before .before .before .before .before .before .before .before .before .before .before .before .unpack-frame .kept .1 .1 .1 .1 .1 .1 .0
 
 -- src/walking.rt:174:1
 same-length-18 : tie.Need-same-length-18
-same-length-18 c = search needs
+same-length-18 c = c .before .before .before .before .before .before .before .before .before .before .before .before .before .before .before .before .before .before .before .before .before .before .before .before .before .before .before .before .before .before .before .unpack-frame .kept .1 .1 .1 .1 .1 .1 .1 .0
 
 -- src/walking.rt:174:1
 same-length-19 : tie.Need-same-length-19
-same-length-19 c = search needs
+same-length-19 c = c .before .before .before .before .before .before .before .before .before .before .before .before .walk-evals .kept .1 .1 .1 .1 .1 .1 .1 .1 .1 .1 .1 .1 .1 .0
 
 -- src/walking.rt:174:1
 same-length-20 : tie.Need-same-length-20
-same-length-20 c = search needs
+same-length-20 c = c .before .before .before .before .before .before .before .before .before .before .before .before .walk-evals .kept .1 .1 .1 .1 .1 .1 .1 .1 .1 .1 .1 .1 .1 .1 .0
 
 -- src/walking.rt:174:1
 same-length-21 : tie.Need-same-length-21
-same-length-21 c = search needs
+same-length-21 c = c .before .before .before .before .before .before .before .before .before .before .before .before .walk-evals .kept .1 .1 .1 .1 .1 .1 .1 .1 .1 .1 .1 .1 .1 .1 .1 .0
 
 -- src/walking.rt:174:1
 same-length-22 : tie.Need-same-length-22
-same-length-22 c = search needs
+same-length-22 c = c .before .before .before .before .before .before .before .before .before .before .before .before .walk-evals .kept .1 .1 .1 .1 .1 .1 .1 .1 .1 .1 .1 .1 .1 .1 .1 .1 .0
 
 -- src/walking.rt:174:1
 returns-3 : tie.Need-returns-3

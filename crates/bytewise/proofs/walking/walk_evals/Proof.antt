@@ -40,11 +40,11 @@ walk-words-requires c κs = (packs (c .before .before .before .before .before .b
 
 -- src/walking.rt:126:1
 same-length : tie.Need-same-length
-same-length c = search needs
+same-length c = c .before .before .before .before .before .before .before .before .before .before .before .before .walk-words .kept .1 .1 .1 .1 .1 .1 .1 .1 .1 .1 .1 .0
 
 -- src/walking.rt:126:1
 same-length-2 : tie.Need-same-length-2
-same-length-2 c = search needs
+same-length-2 c = c .before .before .before .before .before .before .before .before .before .before .before .before .walk-words .kept .1 .1 .1 .1 .1 .1 .1 .1 .1 .1 .1 .1 .0
 
 -- src/walking.rt:126:1
 same-length-3 : tie.Need-same-length-3
@@ -56,11 +56,11 @@ same-length-4 c = search needs
 
 -- src/walking.rt:126:1
 same-length-5 : tie.Need-same-length-5
-same-length-5 c = search needs
+same-length-5 c = c .before .before .before .before .before .before .before .before .before .before .before .before .walk-words .kept .1 .1 .1 .1 .1 .1 .1 .1 .1 .1 .1 .1 .1 .1 .1 .0
 
 -- src/walking.rt:126:1
 same-length-6 : tie.Need-same-length-6
-same-length-6 c = search needs
+same-length-6 c = c .before .before .before .before .before .before .before .before .before .before .before .before .walk-words .kept .1 .1 .1 .1 .1 .1 .1 .1 .1 .1 .1 .1 .1 .1 .1 .1 .0
 
 -- src/walking.rt:126:1
 returns : tie.Need-returns
