@@ -19,7 +19,8 @@ use Rattle.bytewise.specs.Checking.{CheckStored}
 use Rattle.bytewise.specs.Lowering.{LowerStored}
 use Rattle.bytewise.specs.Walking.{Frame, Memory, WalkStored}
 use Rattle.bytewise.proofs.Single.{check-stored-single, lower-stored-single, walk-stored-single}
-use Rattle.host.specs.ProgramCalls.{answerOf, onDone, Called}
+use Rattle.host_answer.specs.Answer.{answerOf, onDone}
+use Rattle.host.specs.ProgramCalls.{Called}
 use Rattle.host.specs.ByteCalls.{CalledStored}
 
 module _ {P : Stored → Type 0} {o : Stored} {length : ℕ} (p : P o) where

@@ -14,8 +14,9 @@ use Rattle.lower.specs.declared.lower.Lowering.{Lowering}
 use Rattle.lower.specs.declared.lower.Lowering.the-variants.{Lowered, Refused}
 use Rattle.lower.specs.Answer.{Lists, Output, saidOfLowering, lowerSaid, LowerAnswer}
 use Rattle.lower.proofs.Single.{lower-single}
-use Rattle.host.specs.ProgramCalls.{answerOf}
-use Rattle.host.specs.LowerCalls.{valueOnDone, CalledLower}
+use Rattle.host_answer.specs.Answer.{answerOf}
+use Rattle.host_answer.specs.Answer.{valueOnDone}
+use Rattle.host.specs.LowerCalls.{CalledLower}
 use Rattle.host.proofs.PlaceLaws.{Parts, parts-of, lower-fits}
 
 -- a refusal writes no value

@@ -28,7 +28,8 @@ use Rattle.values.specs.Frame.{Lent, leaves, rowStrides, nodeOutside, frameLimi
 use Rattle.interp.specs.Evaluation.{memoryRows, formRows, extRoot, proverRest, proverRows, verifierRest, verifierRows, rowShape, askedRow, rowRest, rowRows, lengths, ProverAnswer, VerifierAnswer, RowAnswer}
 use Rattle.lower.specs.Lower.{blobOf}
 use Rattle.lower.specs.Answer.{Lists, Output, lowering, lowerRows, lowerSaid, countsOf}
-use Rattle.host.specs.ProgramCalls.{answerOf, Called, CalledBase, CalledReads}
+use Rattle.host_answer.specs.Answer.{answerOf}
+use Rattle.host.specs.ProgramCalls.{Called, CalledBase, CalledReads}
 
 -- the places that 48 bits hold
 abbrev places : ℕ

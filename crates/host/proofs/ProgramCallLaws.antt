@@ -13,7 +13,8 @@ use Rattle.ir.specs.Refusals.{saidOf}
 use Rattle.ir.proofs.RefusalLaws.{refusal-number}
 use Rattle.interp.specs.declared.interp.Evaluated.{Evaluated}
 use Rattle.interp.specs.declared.interp.Evaluated.the-variants.{Base, Rejected}
-use Rattle.host.specs.ProgramCalls.{answerOf, onDone, CalledBase, CalledReads}
+use Rattle.host_answer.specs.Answer.{answerOf, onDone}
+use Rattle.host.specs.ProgramCalls.{CalledBase, CalledReads}
 
 -- a refusal writes no value
 kept : (why : Refusal) (old : ℕ) → old ≡ onDone (saidOf why) old

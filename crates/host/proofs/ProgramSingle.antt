@@ -15,7 +15,8 @@ use Rattle.interp.specs.declared.interp.Evaluated.{Evaluated}
 use Rattle.values.specs.Frame.{Lent}
 use Rattle.interp.specs.Evaluation.{saidOfEvaluated, ProverAnswer, VerifierAnswer, RowAnswer}
 use Rattle.interp.proofs.Single.{eval-program-single, eval-program-verifier-single, eval-program-base-single}
-use Rattle.host.specs.ProgramCalls.{answerOf, Called, CalledBase, CalledReads, onDone}
+use Rattle.host_answer.specs.Answer.{answerOf, onDone}
+use Rattle.host.specs.ProgramCalls.{Called, CalledBase, CalledReads}
 
 module _ (c : Counts) (s : Shape) (nodes roots : List ℕ) (l : Lent) {a a′ : ℕ} {ext ext₁ ext₂ room room₁ room₂ : List ℕ} where
   pub cir-eval-program-single : {base base₁ base₂ : List ℕ} → Called (λ o. ProverAnswer c s nodes roots l o base base₁ ext ext₁ room room₁) a → Called (λ o. ProverAnswer c s nodes roots l o base base₂ ext ext₂ room room₂) a′ → (a ≡ a′) × (base₁ ≡ base₂) × (ext₁ ≡ ext₂) × (room₁ ≡ room₂)

@@ -4,7 +4,7 @@ use mathlib.Core.Path.{_≡_}
 use Prim.Native.Nat.{ℕ}
 use Rattle.stored.specs.declared.write.Stored.{Stored}
 use Rattle.stored.specs.Answer.{saidOfStored}
-use Rattle.host.specs.ProgramCalls.{answerOf, onDone}
+use Rattle.host_answer.specs.Answer.{answerOf, onDone}
 
 -- the call answers as `lower_stored` does, whose promise is P of its outcome; the file's length is written on 0 alone
 pub record CalledStored (P : Stored → Type 0) (answer length length′ : ℕ) : Type 0 where

@@ -1,18 +1,10 @@
 -- What the call that lowers promises: the answer as one number, and each lent word.
 -- Assumes nothing.
-use mathlib.Core.Bool.{cond}
 use mathlib.Core.Path.{_≡_}
 use Prim.Native.Nat.{ℕ}
-use lib.Dec.{eqb}
-use lib.ListN.{getD}
-use Rattle.ir.specs.Refusals.{Said}
 use Rattle.lower.specs.declared.lower.Lowering.{Lowering}
 use Rattle.lower.specs.Answer.{saidOfLowering}
-use Rattle.host.specs.ProgramCalls.{answerOf}
-
--- value k of the answer is written on 0 alone
-abbrev pub valueOnDone : Said → ℕ → ℕ → ℕ
-valueOnDone s k old = cond (eqb (s .number) 0) (getD (s .values) k 0) old
+use Rattle.host_answer.specs.Answer.{answerOf, valueOnDone}
 
 -- the call answers as `lower` does, whose promise is P of its outcome; the nodes of the blob are value 0, its base slots
 -- value 5, its extension slots value 6

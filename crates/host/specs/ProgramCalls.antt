@@ -1,22 +1,16 @@
 -- What the calls on programs promise: the answer as one number, and each lent word.
 -- Assumes nothing.
-use Prim.Native.Nat.{ℕ, _+_, _*_, _%_}
+use Prim.Native.Nat.{ℕ}
 use Rattle.ir.specs.declared.program.Counts.{Counts}
-use mathlib.Core.Bool.{cond}
 use mathlib.Core.Path.{_≡_}
-use lib.Dec.{eqb}
-use lib.ListN.{getD}
 use Rattle.ir.specs.declared.frame.Shape.{Shape}
 use Rattle.ir.specs.declared.refusal.Outcome.{Outcome}
 use Rattle.ir.specs.declared.reads.Columns.{Columns}
 use Rattle.ir.specs.Reads.{saidOfColumns}
-use Rattle.ir.specs.Refusals.{Said, saidOfOutcome}
+use Rattle.ir.specs.Refusals.{saidOfOutcome}
 use Rattle.interp.specs.declared.interp.Evaluated.{Evaluated}
 use Rattle.interp.specs.Evaluation.{saidOfEvaluated}
-
--- the number, and 256 times the place; a place has 48 bits here, and every one fits
-abbrev pub answerOf : Said → ℕ
-answerOf s = s .number + 256 * (s .place % 281474976710656)
+use Rattle.host_answer.specs.Answer.{answerOf, onDone}
 
 abbrev pub counts : (n b x r leading : ℕ) → Counts
 counts n b x r leading = record { nodes = n; bases = b; exts = x; roots = r; «num_base» = leading }
@@ -30,10 +24,6 @@ pub record Called (P : Outcome → Type 0) (answer : ℕ) : Type 0 where
   pub outcome : Outcome
   pub promised : P outcome
   pub answered : answer ≡ answerOf (saidOfOutcome outcome)
-
--- a value is written on 0 alone
-abbrev pub onDone : Said → ℕ → ℕ
-onDone s old = cond (eqb (s .number) 0) (getD (s .values) 0 0) old
 
 pub record CalledBase (P : Evaluated → Type 0) (answer old new : ℕ) : Type 0 where
   pub outcome : Evaluated

@@ -7,11 +7,11 @@ ghost use Rattle.device.specs.Check.{CheckAnswer};
 ghost use Rattle.walk.specs.Walk.{WalkAnswer};
 ghost use Rattle.host.specs.ProgramCalls.{shape, Called};
 ghost use Rattle.host.specs.BlobCalls.{blobCounts, blob};
-use super::program_calls::coded_outcome;
-use super::program_calls::offset_of;
 use super::program_calls::shape_of;
 use device::blob::BlobCounts;
 use device::check::check_blob;
+use host_answer::answer::coded_outcome;
+use host_answer::answer::ext_of;
 use walk::walk::walk;
 
 fn blob_counts_of(n: u32, b: u32, x: u32, r: u32, leading: u32, bs: u32, xs: u32) -> BlobCounts
@@ -88,7 +88,7 @@ pub extern "C" fn cir_walk(
     coded_outcome(walk(
         blob_counts_of(n, b, x, r, leading, bs, xs),
         shape_of(steps, width, auxes, rap, powers),
-        offset_of(o0, o1, o2),
+        ext_of(o0, o1, o2),
         nodes,
         bases,
         exts,

@@ -6,14 +6,14 @@ ghost use Rattle.bytewise.specs.Lowering.{LowerStored};
 ghost use Rattle.bytewise.specs.Walking.{WalkStored};
 ghost use Rattle.host.specs.ProgramCalls.{counts, shape, Called};
 ghost use Rattle.host.specs.ByteCalls.{CalledStored};
-use super::program_calls::coded_outcome;
-use super::program_calls::coded_refusal;
 use super::program_calls::counts_of;
-use super::program_calls::offset_of;
 use super::program_calls::shape_of;
 use bytewise::checking::check_stored;
 use bytewise::lowering::lower_stored;
 use bytewise::walking::walk_stored;
+use host_answer::answer::coded_outcome;
+use host_answer::answer::coded_refusal;
+use host_answer::answer::ext_of;
 use stored::write::Stored;
 
 #[no_mangle]
@@ -133,7 +133,7 @@ pub extern "C" fn cir_walk_stored(
 {
     coded_outcome(walk_stored(
         shape_of(steps, width, auxes, rap, powers),
-        offset_of(o0, o1, o2),
+        ext_of(o0, o1, o2),
         file,
         main,
         aux,

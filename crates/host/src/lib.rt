@@ -1,9 +1,6 @@
 // The calls that a Rust or C host links; include/cir.h declares them. They move words between the
 // host's memory and the library and decide nothing; every call takes every input.
 mod blob_calls;
-mod builder_byte_calls;
-mod builder_calls;
 mod byte_calls;
-mod field_calls;
 mod lower_calls;
 mod program_calls;

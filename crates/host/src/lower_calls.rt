@@ -3,8 +3,8 @@
 ghost use Rattle.lower.specs.Answer.{LowerAnswer};
 ghost use Rattle.host.specs.ProgramCalls.{counts};
 ghost use Rattle.host.specs.LowerCalls.{CalledLower};
-use super::program_calls::coded_refusal;
 use super::program_calls::counts_of;
+use host_answer::answer::coded_refusal;
 use lower::lower::Lowering;
 use lower::lower::lower;
 

@@ -2,14 +2,15 @@
 // times the place that it names.
 ghost use mathlib.Core.List.{[], _∷_};
 ghost use mathlib.Core.Path.{_≡_};
-ghost use Prim.Native.Nat.{_+_, _*_, _%_};
-ghost use Rattle.ir.specs.Refusals.{saidOf, saidOfOutcome};
 ghost use Rattle.ir.specs.Program.{checked};
 ghost use Rattle.ir.specs.Reads.{ReadsAnswer};
 ghost use Rattle.values.specs.Frame.{lent, rowLent};
 ghost use Rattle.interp.specs.Evaluation.{ProverAnswer, VerifierAnswer, RowAnswer};
-ghost use Rattle.host.specs.ProgramCalls.{answerOf, counts, shape, Called, CalledBase, CalledReads};
-use field::extensions_goldilocks::Ext;
+ghost use Rattle.host_answer.specs.Answer.{answerOf};
+ghost use Rattle.host.specs.ProgramCalls.{counts, shape, Called, CalledBase, CalledReads};
+use host_answer::answer::coded_outcome;
+use host_answer::answer::coded_refusal;
+use host_answer::answer::ext_of;
 use interp::interp::Evaluated;
 use interp::interp::eval_program;
 use interp::interp::eval_program_base;
@@ -19,46 +20,6 @@ use ir::program::Counts;
 use ir::program::check_program;
 use ir::reads::Columns;
 use ir::reads::next_row_trace_reads;
-use ir::refusal::Outcome;
-use ir::refusal::Refusal;
-
-// A place fits: no table has more than 2^32 entries.
-fn coded(number: u8, place: usize) -> u64
-    ensures { λ r. ⌜ r ≡ number + 256 * (place % 281474976710656) ⌝ }
-{
-    (number as u64) + 256 * ((place % 281474976710656) as u64)
-}
-
-pub fn coded_refusal(why: Refusal) -> u64
-    ensures { λ r. ⌜ r ≡ answerOf (saidOf why) ⌝ }
-{
-    match why {
-        Refusal::ShortMemory => coded(1, 0),
-        Refusal::OverLimit => coded(2, 0),
-        Refusal::ForeignHandle => coded(3, 0),
-        Refusal::NodesFull => coded(4, 0),
-        Refusal::ConstantsFull => coded(5, 0),
-        Refusal::NoConstraint => coded(6, 0),
-        Refusal::IllFormed { place } => coded(7, place),
-        Refusal::TooManyNodes => coded(8, 0),
-        Refusal::TooManyRoots => coded(9, 0),
-        Refusal::ShortOutput => coded(10, 0),
-        Refusal::IllegalBlob { place } => coded(11, place),
-        Refusal::ExtensionRoot { place } => coded(12, place),
-        Refusal::LeafOutside { place } => coded(13, place),
-        Refusal::ShortEvals => coded(14, 0),
-        Refusal::BadFraming => coded(15, 0),
-    }
-}
-
-pub fn coded_outcome(o: Outcome) -> u64
-    ensures { λ r. ⌜ r ≡ answerOf (saidOfOutcome o) ⌝ }
-{
-    match o {
-        Outcome::Done => 0,
-        Outcome::Refused(why) => coded_refusal(why),
-    }
-}
 
 // The library's structs, from the numbers that a call is given.
 pub fn counts_of(n: usize, b: usize, x: usize, r: usize, leading: usize) -> Counts
@@ -82,14 +43,6 @@ pub fn shape_of(steps: usize, width: usize, auxes: usize, rap: usize, powers: us
         aux: auxes,
         challenges: rap,
         alphas: powers,
-    }
-}
-
-pub fn offset_of(o0: u64, o1: u64, o2: u64) -> Ext
-    ensures { λ e. ⌜ e .limbs ≡ o0 ∷ o1 ∷ o2 ∷ [] ⌝ }
-{
-    Ext {
-        limbs: [o0, o1, o2],
     }
 }
 
@@ -143,7 +96,7 @@ pub extern "C" fn cir_eval_program(
     coded_outcome(eval_program(
         counts_of(n, b, x, r, leading),
         shape_of(steps, width, auxes, rap, powers),
-        offset_of(o0, o1, o2),
+        ext_of(o0, o1, o2),
         nodes,
         bases,
         exts,
@@ -189,7 +142,7 @@ pub extern "C" fn cir_eval_program_verifier(
     coded_outcome(eval_program_verifier(
         counts_of(n, b, x, r, leading),
         shape_of(steps, width, auxes, rap, powers),
-        offset_of(o0, o1, o2),
+        ext_of(o0, o1, o2),
         nodes,
         bases,
         exts,

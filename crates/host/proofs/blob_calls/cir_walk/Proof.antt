@@ -4,8 +4,8 @@ use Rattle.host.proofs.blob_calls.cir_walk.Tie as tie
 use Rattle.host.proofs.blob_calls.cir_walk.Reads as reads
 use Rattle.host.proofs.blob_calls.cir_walk.Lts as lts
 use Rattle.host.proofs.blob_calls.blob_counts_of.Reads as blob-counts-of-reads
-use Rattle.host.proofs.program_calls.coded_outcome.Reads as coded-outcome-reads
-use Rattle.host.proofs.program_calls.offset_of.Reads as offset-of-reads
+use Rattle.host_answer.proofs.answer.coded_outcome.Reads as coded-outcome-reads
+use Rattle.host_answer.proofs.answer.ext_of.Reads as ext-of-reads
 use Rattle.host.proofs.program_calls.shape_of.Reads as shape-of-reads
 use Rattle.walk.proofs.walk.walk.Reads as walk-reads
 
@@ -18,8 +18,8 @@ shape-of-requires : tie.Need-shape-of-requires
 shape-of-requires c κs = search needs
 
 -- src/blob_calls.rt:91:9
-offset-of-requires : tie.Need-offset-of-requires
-offset-of-requires c κs = search needs
+ext-of-requires : tie.Need-ext-of-requires
+ext-of-requires c κs = search needs
 
 -- src/blob_calls.rt:88:19
 walk-requires : tie.Need-walk-requires
@@ -47,7 +47,7 @@ same-length-4 c = search needs
 
 -- src/blob_calls.rt:56:1
 returns : tie.Need-returns
-returns c = record { outcome = c .before .before .before .before .before .before .before .before .before .walk .result; promised = rw (c .before .before .before .before .before .before .before .before .before .before .before .before .before .before .before .before .blob-counts-of .ensures, c .before .before .before .before .before .before .before .before .before .before .before .before .before .before .before .shape-of .ensures, c .before .before .before .before .before .before .before .before .before .before .before .before .before .before .offset-of .ensures) at (c .before .before .before .before .before .before .before .before .before .walk .ensures); answered = c .coded-outcome .ensures }
+returns c = record { outcome = c .before .before .before .before .before .before .before .before .before .walk .result; promised = rw (c .before .before .before .before .before .before .before .before .before .before .before .before .before .before .before .before .blob-counts-of .ensures, c .before .before .before .before .before .before .before .before .before .before .before .before .before .before .before .shape-of .ensures, c .before .before .before .before .before .before .before .before .before .before .before .before .before .before .ext-of .ensures) at (c .before .before .before .before .before .before .before .before .before .walk .ensures); answered = c .coded-outcome .ensures }
 
 pub cir-walk-spec : {M : Type 1} → statement M
 cir-walk-spec =
@@ -55,7 +55,7 @@ cir-walk-spec =
     (tie.spec
     blob-counts-of-requires
     shape-of-requires
-    offset-of-requires
+    ext-of-requires
     walk-requires
     coded-outcome-requires
     same-length

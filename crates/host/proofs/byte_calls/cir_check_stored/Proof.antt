@@ -4,7 +4,7 @@ use Rattle.host.proofs.byte_calls.cir_check_stored.Tie as tie
 use Rattle.host.proofs.byte_calls.cir_check_stored.Reads as reads
 use Rattle.host.proofs.byte_calls.cir_check_stored.Lts as lts
 use Rattle.bytewise.proofs.checking.check_stored.Reads as check-stored-reads
-use Rattle.host.proofs.program_calls.coded_outcome.Reads as coded-outcome-reads
+use Rattle.host_answer.proofs.answer.coded_outcome.Reads as coded-outcome-reads
 use Rattle.host.proofs.program_calls.shape_of.Reads as shape-of-reads
 
 -- src/byte_calls.rt:35:9

@@ -5,7 +5,7 @@ use Rattle.host.proofs.byte_calls.cir_lower_stored.Tie as tie
 use Rattle.host.proofs.byte_calls.cir_lower_stored.Reads as reads
 use Rattle.host.proofs.byte_calls.cir_lower_stored.Lts as lts
 use Rattle.bytewise.proofs.lowering.lower_stored.Reads as lower-stored-reads
-use Rattle.host.proofs.program_calls.coded_refusal.Reads as coded-refusal-reads
+use Rattle.host_answer.proofs.answer.coded_refusal.Reads as coded-refusal-reads
 use Rattle.host.proofs.program_calls.counts_of.Reads as counts-of-reads
 
 -- src/byte_calls.rt:70:9

@@ -4,8 +4,8 @@ use Rattle.host.proofs.byte_calls.cir_walk_stored.Tie as tie
 use Rattle.host.proofs.byte_calls.cir_walk_stored.Reads as reads
 use Rattle.host.proofs.byte_calls.cir_walk_stored.Lts as lts
 use Rattle.bytewise.proofs.walking.walk_stored.Reads as walk-stored-reads
-use Rattle.host.proofs.program_calls.coded_outcome.Reads as coded-outcome-reads
-use Rattle.host.proofs.program_calls.offset_of.Reads as offset-of-reads
+use Rattle.host_answer.proofs.answer.coded_outcome.Reads as coded-outcome-reads
+use Rattle.host_answer.proofs.answer.ext_of.Reads as ext-of-reads
 use Rattle.host.proofs.program_calls.shape_of.Reads as shape-of-reads
 
 -- src/byte_calls.rt:135:9
@@ -13,8 +13,8 @@ shape-of-requires : tie.Need-shape-of-requires
 shape-of-requires c κs = search needs
 
 -- src/byte_calls.rt:136:9
-offset-of-requires : tie.Need-offset-of-requires
-offset-of-requires c κs = search needs
+ext-of-requires : tie.Need-ext-of-requires
+ext-of-requires c κs = search needs
 
 -- src/byte_calls.rt:134:19
 walk-stored-requires : tie.Need-walk-stored-requires
@@ -82,14 +82,14 @@ same-length-14 c = search needs
 
 -- src/byte_calls.rt:102:1
 returns : tie.Need-returns
-returns c = record { outcome = c .before .before .before .before .before .before .before .before .before .before .before .before .before .before .before .before .before .before .before .before .before .before .before .before .before .before .before .before .before .walk-stored .result; promised = rw (c .before .before .before .before .before .before .before .before .before .before .before .before .before .before .before .before .before .before .before .before .before .before .before .before .before .before .before .before .before .before .before .before .before .before .before .before .before .before .before .before .before .before .before .before .before .shape-of .ensures, c .before .before .before .before .before .before .before .before .before .before .before .before .before .before .before .before .before .before .before .before .before .before .before .before .before .before .before .before .before .before .before .before .before .before .before .before .before .before .before .before .before .before .before .before .offset-of .ensures) at (c .before .before .before .before .before .before .before .before .before .before .before .before .before .before .before .before .before .before .before .before .before .before .before .before .before .before .before .before .before .walk-stored .ensures); answered = c .coded-outcome .ensures }
+returns c = record { outcome = c .before .before .before .before .before .before .before .before .before .before .before .before .before .before .before .before .before .before .before .before .before .before .before .before .before .before .before .before .before .walk-stored .result; promised = rw (c .before .before .before .before .before .before .before .before .before .before .before .before .before .before .before .before .before .before .before .before .before .before .before .before .before .before .before .before .before .before .before .before .before .before .before .before .before .before .before .before .before .before .before .before .before .shape-of .ensures, c .before .before .before .before .before .before .before .before .before .before .before .before .before .before .before .before .before .before .before .before .before .before .before .before .before .before .before .before .before .before .before .before .before .before .before .before .before .before .before .before .before .before .before .before .ext-of .ensures) at (c .before .before .before .before .before .before .before .before .before .before .before .before .before .before .before .before .before .before .before .before .before .before .before .before .before .before .before .before .before .walk-stored .ensures); answered = c .coded-outcome .ensures }
 
 pub cir-walk-stored-spec : {M : Type 1} → statement M
 cir-walk-stored-spec =
     tie.close
     (tie.spec
     shape-of-requires
-    offset-of-requires
+    ext-of-requires
     walk-stored-requires
     coded-outcome-requires
     same-length

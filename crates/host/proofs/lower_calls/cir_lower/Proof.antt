@@ -4,7 +4,7 @@ use Rattle.host.proofs.lower_calls.cir_lower.Statement.{statement}
 use Rattle.host.proofs.lower_calls.cir_lower.Tie as tie
 use Rattle.host.proofs.lower_calls.cir_lower.Reads as reads
 use Rattle.host.proofs.lower_calls.cir_lower.Lts as lts
-use Rattle.host.proofs.program_calls.coded_refusal.Reads as coded-refusal-reads
+use Rattle.host_answer.proofs.answer.coded_refusal.Reads as coded-refusal-reads
 use Rattle.host.proofs.program_calls.counts_of.Reads as counts-of-reads
 use Rattle.lower.proofs.lower.lower.Reads as lower-reads
 

@@ -1,6 +1,6 @@
 -- `cir_check_program` meets its contract: it is the check's.
 -- Assumes nothing.
-use Rattle.host.specs.ProgramCalls.{answerOf}
+use Rattle.host_answer.specs.Answer.{answerOf}
 use mathlib.Core.Path.{ap, _∙_}
 use borrow.Author.Needs.{needs}
 use Rattle.host.proofs.program_calls.cir_check_program.Statement.{statement}

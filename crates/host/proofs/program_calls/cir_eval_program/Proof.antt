@@ -10,8 +10,8 @@ counts-of-requires c κs = search needs
 shape-of-requires : tie.Need-shape-of-requires
 shape-of-requires c κs = search needs
 
-offset-of-requires : tie.Need-offset-of-requires
-offset-of-requires c κs = search needs
+ext-of-requires : tie.Need-ext-of-requires
+ext-of-requires c κs = search needs
 
 eval-program-requires : tie.Need-eval-program-requires
 eval-program-requires c κs = search needs
@@ -34,7 +34,7 @@ returns c =
     let made = ran .before .before .before .before in
     record {
       outcome = ran .eval-program .result;
-      promised = rw (made .before .before .counts-of .ensures, made .before .shape-of .ensures, made .offset-of .ensures) at (ran .eval-program .ensures);
+      promised = rw (made .before .before .counts-of .ensures, made .before .shape-of .ensures, made .ext-of .ensures) at (ran .eval-program .ensures);
       answered = c .coded-outcome .ensures;
     }
 
@@ -44,7 +44,7 @@ cir-eval-program-spec =
     (tie.spec
     counts-of-requires
     shape-of-requires
-    offset-of-requires
+    ext-of-requires
     eval-program-requires
     coded-outcome-requires
     same-length

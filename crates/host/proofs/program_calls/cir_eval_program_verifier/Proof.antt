@@ -10,8 +10,8 @@ counts-of-requires c κs = search needs
 shape-of-requires : tie.Need-shape-of-requires
 shape-of-requires c κs = search needs
 
-offset-of-requires : tie.Need-offset-of-requires
-offset-of-requires c κs = search needs
+ext-of-requires : tie.Need-ext-of-requires
+ext-of-requires c κs = search needs
 
 eval-program-verifier-requires : tie.Need-eval-program-verifier-requires
 eval-program-verifier-requires c κs = search needs
@@ -31,7 +31,7 @@ returns c =
     let made = ran .before .before .before in
     record {
       outcome = ran .eval-program-verifier .result;
-      promised = rw (made .before .before .counts-of .ensures, made .before .shape-of .ensures, made .offset-of .ensures) at (ran .eval-program-verifier .ensures);
+      promised = rw (made .before .before .counts-of .ensures, made .before .shape-of .ensures, made .ext-of .ensures) at (ran .eval-program-verifier .ensures);
       answered = c .coded-outcome .ensures;
     }
 
@@ -41,7 +41,7 @@ cir-eval-program-verifier-spec =
     (tie.spec
     counts-of-requires
     shape-of-requires
-    offset-of-requires
+    ext-of-requires
     eval-program-verifier-requires
     coded-outcome-requires
     same-length

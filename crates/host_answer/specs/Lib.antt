@@ -1,0 +1,2 @@
+-- The definitions of answers as numbers.
+pub mod Answer

@@ -1,0 +1,4 @@
+-- The proofs of the builder's calls.
+pub mod BuilderByteLaws
+pub mod BuilderCallLaws
+pub mod BuilderSingle

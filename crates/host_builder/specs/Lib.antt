@@ -1,0 +1,3 @@
+-- The definitions of the builder's calls.
+pub mod BuilderByteCalls
+pub mod BuilderCalls

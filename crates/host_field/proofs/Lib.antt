@@ -1,0 +1,3 @@
+-- The proofs of the field's calls.
+pub mod FieldCallLaws
+pub mod Single

@@ -1,0 +1,2 @@
+-- The definitions of the field's calls.
+pub mod FieldCalls
