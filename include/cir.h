@@ -1,4 +1,5 @@
-/* The calls of the static library libhost.a, which `rt staticlib host` writes to target/staticlib/.
+/* The calls of three static libraries, which `./libraries` writes to target/staticlib/: libhost_field.a has the field's,
+ * libhost_builder.a the builder's, libhost.a those on programs and blobs.
  *
  * A field value is a word that stands for its remainder by p = 2^64 - 2^32 + 1. Every word is taken; every word that a
  * call writes or returns as a value is below p. An extension value is three words in a row, over w with w cubed = 2.

@@ -1,12 +1,15 @@
-//! Links the project's static library, `libhost.a`.
+//! Links the project's static libraries.
 
 use std::env;
 use std::path::{Path, PathBuf};
 
-/// Names the folder that holds the archive, if it is not where the toolchain puts it.
+/// What include/cir.h declares: the field's calls, the builder's, and those on programs and blobs.
+const LIBRARIES: [&str; 3] = ["host_field", "host_builder", "host"];
+
+/// Names the folder that holds them, if it is not where the toolchain puts them.
 const VARIABLE: &str = "HOST_LIB_DIR";
 
-/// The project's root, seen from this crate, and the folder in it where the toolchain puts the archive.
+/// The project's root, seen from this crate, and the folder in it where the toolchain puts them.
 const ROOT: &str = "../..";
 const BUILT: &str = "target/staticlib";
 
@@ -19,21 +22,23 @@ fn main() {
         Some(value) => PathBuf::from(value),
         None => absolute(Path::new(&package).join(ROOT)).join(BUILT),
     });
-    let archive = folder.join("libhost.a");
-    println!("cargo::rerun-if-changed={}", archive.display());
-    if !archive.is_file() {
-        println!(
-            "cargo::error=the static library is not there: {} is no file",
-            archive.display()
-        );
-        println!(
-            "cargo::error=run `rt staticlib host` in the project's root first, \
-             or set {VARIABLE} to the absolute path of the folder that holds libhost.a"
-        );
-        return;
-    }
     println!("cargo::rustc-link-search=native={}", folder.display());
-    println!("cargo::rustc-link-lib=static=host");
+    for library in LIBRARIES {
+        let archive = folder.join(format!("lib{library}.a"));
+        println!("cargo::rerun-if-changed={}", archive.display());
+        if !archive.is_file() {
+            println!(
+                "cargo::error=a static library is not there: {} is no file",
+                archive.display()
+            );
+            println!(
+                "cargo::error=run `./libraries` in the project's root first, \
+                 or set {VARIABLE} to the absolute path of the folder that holds the three libraries"
+            );
+            return;
+        }
+        println!("cargo::rustc-link-lib=static={library}");
+    }
 }
 
 /// The linker runs in another folder, so a relative path would be read from there. A folder that is absent has no

@@ -59,7 +59,9 @@ fn slice(kind: &str, word: &str) -> Vec<String> {
 
 /// `pub extern "C" fn NAME(a: u64, b: &[u64], c: &mut [u32], d: &mut u64) -> u64`
 fn rattle() -> Calls {
-    let text = sources(&root().join("crates/host/src"), "rt");
+    let text: String = ["host_field", "host_builder", "host"]
+        .map(|name| sources(&root().join("crates").join(name).join("src"), "rt"))
+        .concat();
     let mut calls = Calls::new();
     for call in text.split("pub extern \"C\" fn ").skip(1) {
         let (name, rest) = call.split_once('(').expect("a call has parameters");
@@ -157,7 +159,7 @@ fn the_header_has_the_calls_of_the_library() {
         assert_eq!(header.get(name), Some(types), "{name} in include/cir.h");
     }
     for name in header.keys() {
-        assert!(rattle.contains_key(name), "{name} of include/cir.h in crates/host/src");
+        assert!(rattle.contains_key(name), "{name} of include/cir.h in Rattle");
     }
 }
 
