@@ -10,14 +10,14 @@ use lib.Dec.{ltb}
 use borrow.Author.Tests.{ltb-false}
 use Rattle.laws.proofs.Tests.{or-left}
 use Rattle.ir.specs.Words.{Node}
-use Rattle.builder.specs.Hashing.{startOf}
-use Rattle.builder.specs.Table.{Table, table}
-use Rattle.builder.specs.Puts.{Pushes}
+use Rattle.node_table.specs.Hashing.{startOf}
+use Rattle.node_table.specs.Table.{Table, table}
+use Rattle.node_table.specs.Puts.{Pushes}
 use Rattle.builder.specs.Answers.{shortB, pushed, made, answerOf, withNodes, Gives}
 use Rattle.builder.specs.declared.ir_builder.Answer.{Answer}
 use Rattle.builder.specs.declared.ir_builder.IrBuilder.{IrBuilder}
-use Rattle.builder.specs.declared.table.Put.{Put}
-use Rattle.builder.specs.declared.table.Put.the-variants.{At, Full}
+use Rattle.node_table.specs.declared.table.Put.{Put}
+use Rattle.node_table.specs.declared.table.Put.the-variants.{At, Full}
 
 pub long-nodes : (ln lp n : ℕ) (s : Bool) → s ≡ shortB ln lp n → s ≡ false → 4 * n ≤ ln
 unfolding shortB

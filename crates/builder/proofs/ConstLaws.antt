@@ -14,19 +14,19 @@ use Rattle.field.specs.Base.{p}
 use Rattle.ir.specs.declared.refusal.Refusal.the-variants.{ShortMemory, ConstantsFull, NodesFull}
 use Rattle.ir.specs.Program.{most}
 use Rattle.ir.specs.Words.{Node, constBase}
-use Rattle.builder.specs.Words.{node}
-use Rattle.builder.specs.Hashing.{startOf}
-use Rattle.builder.specs.Table.{Table, table}
-use Rattle.builder.specs.Puts.{Pushes}
+use Rattle.node_table.specs.Words.{node}
+use Rattle.node_table.specs.Hashing.{startOf}
+use Rattle.node_table.specs.Table.{Table, table}
+use Rattle.node_table.specs.Puts.{Pushes}
 use Rattle.builder.specs.Answers.{shortB, pushed, withNodes, answerOf}
 use Rattle.builder.specs.Consts.{scan, positionOf, Interned, crowdedB, internOf, constOf, withBases, withExts, Interns, keptB, empty, zeroOf, newOf}
 use Rattle.builder.specs.Roots.{cleared}
-use Rattle.builder.specs.declared.table.Put.{Put}
-use Rattle.builder.specs.declared.table.Put.the-variants.{At, Full}
+use Rattle.node_table.specs.declared.table.Put.{Put}
+use Rattle.node_table.specs.declared.table.Put.the-variants.{At, Full}
 use Rattle.builder.specs.declared.ir_builder.Answer.{Answer}
 use Rattle.builder.specs.declared.ir_builder.Answer.the-variants.{Refused}
 use Rattle.builder.specs.declared.ir_builder.IrBuilder.{IrBuilder}
-use Rattle.builder.proofs.Laws.{cond-case}
+use Rattle.node_table.proofs.Laws.{cond-case}
 
 module _ (test : ℕ → Bool) where
   scan-le : (left i : ℕ) → scan test left i ≤ i + left

@@ -6,7 +6,7 @@ use mathlib.Core.Path.{_≡_, refl}
 use Prim.Native.Nat.{ℕ}
 use Rattle.ir.specs.Refusals.{Row, row, inOrder}
 use Rattle.builder.specs.declared.ir_builder.Expr.{Expr}
-use Rattle.builder.specs.Table.{Table}
+use Rattle.node_table.specs.Table.{Table}
 use Rattle.builder.specs.Answers.{builderOrder}
 use Rattle.builder.specs.Calls.{indexedRows, offsetRows, binaryRows, unaryRows}
 use Rattle.builder.specs.Consts.{constRows, newRows}

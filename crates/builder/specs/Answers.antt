@@ -15,10 +15,10 @@ use Rattle.builder.specs.declared.ir_builder.Answer.{Answer}
 use Rattle.builder.specs.declared.ir_builder.Answer.the-variants.{Made, Refused}
 use Rattle.builder.specs.declared.ir_builder.Expr.{Expr}
 use Rattle.builder.specs.declared.ir_builder.IrBuilder.{IrBuilder}
-use Rattle.builder.specs.declared.table.Put.{Put}
-use Rattle.builder.specs.declared.table.Put.the-variants.{At, Full}
-use Rattle.builder.specs.Hashing.{Start}
-use Rattle.builder.specs.Table.{Table, Pushed, push}
+use Rattle.node_table.specs.declared.table.Put.{Put}
+use Rattle.node_table.specs.declared.table.Put.the-variants.{At, Full}
+use Rattle.node_table.specs.Hashing.{Start}
+use Rattle.node_table.specs.Table.{Table, Pushed, push}
 
 -- ---- the code's answers
 

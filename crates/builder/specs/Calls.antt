@@ -11,9 +11,9 @@ use Rattle.ir.specs.Words.{Node, packed, var, rapChallenge, alphaPow, tableOffs
 use Rattle.builder.specs.declared.call.Call.{Call}
 use Rattle.builder.specs.declared.call.Call.the-variants as Call
 use Rattle.builder.specs.declared.ir_builder.Expr.{Expr}
-use Rattle.builder.specs.Words.{node}
-use Rattle.builder.specs.Hashing.{Start}
-use Rattle.builder.specs.Table.{Table}
+use Rattle.node_table.specs.Words.{node}
+use Rattle.node_table.specs.Hashing.{Start}
+use Rattle.node_table.specs.Table.{Table}
 use Rattle.builder.specs.Answers.{shortB, strangerB, Built, made}
 
 -- ---- rows

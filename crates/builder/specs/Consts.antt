@@ -13,11 +13,11 @@ use Rattle.ir.specs.Refusals.{Said, Row, row, first, anyHolds, gives, foundAt}
 use Rattle.ir.specs.Words.{constBase, constExt}
 use Rattle.builder.specs.declared.ir_builder.Answer.{Answer}
 use Rattle.builder.specs.declared.ir_builder.IrBuilder.{IrBuilder}
-use Rattle.builder.specs.declared.table.Put.{Put}
-use Rattle.builder.specs.declared.table.Put.the-variants.{At, Full}
-use Rattle.builder.specs.Words.{node}
-use Rattle.builder.specs.Hashing.{Start}
-use Rattle.builder.specs.Table.{Table, table, room}
+use Rattle.node_table.specs.declared.table.Put.{Put}
+use Rattle.node_table.specs.declared.table.Put.the-variants.{At, Full}
+use Rattle.node_table.specs.Words.{node}
+use Rattle.node_table.specs.Hashing.{Start}
+use Rattle.node_table.specs.Table.{Table, table, room}
 use Rattle.builder.specs.Answers.{saidOfAnswer, builderAfter, shortB, pushed}
 use Rattle.builder.specs.Roots.{cleared}
 

@@ -1,6 +1,6 @@
 // The ten calls that touch nodes and places alone, as one: for callers that take a call as data.
-ghost use Rattle.builder.specs.Hashing.{startOf};
-ghost use Rattle.builder.specs.Table.{table};
+ghost use Rattle.node_table.specs.Hashing.{startOf};
+ghost use Rattle.node_table.specs.Table.{table};
 ghost use Rattle.builder.specs.Answers.{Gives};
 ghost use Rattle.builder.specs.Calls.{callOf};
 use super::ir_builder::Answer;

@@ -6,10 +6,10 @@ ghost use lib.Dec.{eqb};
 ghost use lib.ListN.{length};
 ghost use Rattle.field.specs.Base.{p};
 ghost use Rattle.builder.specs.Consts.{sameExt, positionOf, extPositionOf, withBase, withExt, crowdedB};
-use super::table::least;
 use field::extensions_goldilocks::Ext;
 use field::goldilocks::Fp;
 use ir::program::MOST;
+use node_table::table::least;
 
 // Whether two words stand for one element.
 pub fn same_value(a: u64, b: u64) -> bool

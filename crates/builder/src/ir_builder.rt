@@ -7,9 +7,9 @@ ghost use Prim.Native.Nat.{_*_, _≤_};
 ghost use lib.ListN.{length};
 ghost use Rattle.field.specs.Base.{signed};
 ghost use Rattle.ir.specs.Program.{joined};
-ghost use Rattle.builder.specs.Words.{wordsOf, node};
-ghost use Rattle.builder.specs.Hashing.{startOf};
-ghost use Rattle.builder.specs.Table.{table};
+ghost use Rattle.node_table.specs.Words.{wordsOf, node};
+ghost use Rattle.node_table.specs.Hashing.{startOf};
+ghost use Rattle.node_table.specs.Table.{table};
 ghost use Rattle.builder.specs.Answers.{shortB, strangerB, answerOf, made, Gives};
 ghost use Rattle.builder.specs.Calls.{uniformOf, cellOf, binaryOf, unaryOf, challengeOf, alphaPowerOf, tableOffsetOf, mainCellOf, auxCellOf, addOf, subOf, mulOf, negOf, embedOf};
 ghost use Rattle.builder.specs.Consts.{constOf, constExtOf, withBases, withExts, keptB, Interns, empty, newOf};
@@ -22,12 +22,6 @@ use super::constants::write_base;
 use super::constants::write_ext;
 use super::roots::clear;
 use super::roots::greater;
-use super::table::Node;
-use super::table::Put;
-use super::table::least;
-use super::table::push;
-use super::table::room;
-use super::table::wide;
 use field::extensions_goldilocks::Ext;
 use field::goldilocks::Fp;
 use ir::node::DIM_BASE;
@@ -48,6 +42,12 @@ use ir::node::pack_var;
 use ir::program::Counts;
 use ir::program::MOST;
 use ir::refusal::Refusal;
+use node_table::table::Node;
+use node_table::table::Put;
+use node_table::table::least;
+use node_table::table::push;
+use node_table::table::room;
+use node_table::table::wide;
 
 // What the lent tables hold.
 pub struct IrBuilder {

@@ -1,7 +1,6 @@
-// The builder over lent memory, after builder.rs: nodes shared through hash places, and the calls.
+// The builder over lent memory, after builder.rs: its calls.
 pub mod call;
 pub mod constants;
 pub mod gaps;
 pub mod ir_builder;
 pub mod roots;
-pub mod table;

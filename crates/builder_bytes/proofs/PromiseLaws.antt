@@ -26,7 +26,7 @@ use Rattle.builder.specs.Answers.{saidOfAnswer, Built, Gives}
 use Rattle.builder.specs.Consts.{Interned, Interns}
 use Rattle.builder.specs.Gaps.{saidOfGaps, GapsAnswer}
 use Rattle.builder.specs.Roots.{saidOfEmitted, Rooting, EmitGives}
-use Rattle.builder.specs.Table.{Table, table}
+use Rattle.node_table.specs.Table.{Table, table}
 use Rattle.builder_bytes.specs.Rooms.{Lent, lent, tight, held, packedOn}
 use Rattle.builder_bytes.specs.Promises.{heldTable, shortTables, shortThree, shortReport, reportSaid, GivesBytes, InternsBytes, EmitBytes, GapsBytes}
 use Rattle.builder_bytes.proofs.RoomLaws.{roomy, lent-words, packed-after}

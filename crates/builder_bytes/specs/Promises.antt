@@ -17,7 +17,7 @@ use Rattle.builder.specs.Answers.{saidOfAnswer, builderAfter, withNodes, Built}
 use Rattle.builder.specs.Consts.{Interned}
 use Rattle.builder.specs.Gaps.{saidOfGaps, gapsOf, gapsSaid}
 use Rattle.builder.specs.Roots.{saidOfEmitted, builderEmitted, withRoots, Rooting}
-use Rattle.builder.specs.Table.{Table, table}
+use Rattle.node_table.specs.Table.{Table, table}
 use Rattle.builder_bytes.specs.Rooms.{Lent, tight, held, unpackedIn, packedOn}
 
 -- 1 before what is said of the words

@@ -1,6 +1,6 @@
 // The calls that make a node: 1 where a room is too short for its bytes, then the call's own numbers. The bytes change on 0
 // alone.
-ghost use Rattle.builder.specs.Hashing.{startOf};
+ghost use Rattle.node_table.specs.Hashing.{startOf};
 ghost use Rattle.builder.specs.Calls.{callOf};
 ghost use Rattle.builder_bytes.specs.Rooms.{lent};
 ghost use Rattle.builder_bytes.specs.Promises.{heldTable, GivesBytes};

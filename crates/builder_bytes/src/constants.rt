@@ -1,6 +1,6 @@
 // The calls that make a constant, the fresh builder among them: 1 where a room is too short for its bytes, then the call's own
 // numbers. The rooms nw, pw and cw take the words of nodes, places and constants. The bytes change on 0 alone.
-ghost use Rattle.builder.specs.Hashing.{startOf};
+ghost use Rattle.node_table.specs.Hashing.{startOf};
 ghost use Rattle.builder.specs.Consts.{constOf, constExtOf, withBases, withExts, empty, newOf};
 ghost use Rattle.builder_bytes.specs.Rooms.{lent, held};
 ghost use Rattle.builder_bytes.specs.Promises.{heldTable, InternsBytes};

@@ -15,10 +15,10 @@ use Rattle.laws.proofs.Cases.{by-test}
 use Rattle.laws.proofs.Tests.{or-left}
 use Rattle.ir.specs.Program.{most}
 use Rattle.ir.specs.Words.{Node}
-use Rattle.builder.specs.Words.{node}
-use Rattle.builder.specs.Hashing.{Start}
-use Rattle.builder.specs.Table.{Table, room}
-use Rattle.builder.specs.Model.{pushList}
+use Rattle.node_table.specs.Words.{node}
+use Rattle.node_table.specs.Hashing.{Start}
+use Rattle.node_table.specs.Table.{Table, room}
+use Rattle.node_table.specs.Model.{pushList}
 use Rattle.builder.specs.Consts.{scan, crowdedB, Interned, internOf}
 use Rattle.built.specs.Draft.{indexOf, Shared, sharing}
 use Rattle.built.proofs.NodeLaws.{Nodes, pushed-id, maybe-nodes, maybe-room, not-short}

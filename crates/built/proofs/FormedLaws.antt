@@ -21,10 +21,10 @@ use Rattle.ir.specs.Refusals.{Row, row, anyHolds}
 use Rattle.ir.specs.Words as Op
 use Rattle.ir.specs.Words.{Node, nodeAt}
 use Rattle.builder.specs.declared.ir_builder.Expr.{Expr}
-use Rattle.builder.specs.Words.{node, lookup}
+use Rattle.node_table.specs.Words.{node, lookup}
 use Rattle.builder.specs.Calls.{indexRow, cellNode}
-use Rattle.builder.specs.Model.{Listed, pushList}
-use Rattle.builder.proofs.Laws.{cond-case}
+use Rattle.node_table.specs.Model.{Listed, pushList}
+use Rattle.node_table.proofs.Laws.{cond-case}
 use Rattle.built.specs.Draft.{Draft, Room, Call, main, aux, challenge, alphaPower, tableOffset, constBase, constExt, add, sub, mul, neg, embed, emit, freshDraft, stranger, strangerRow, making, binary, indexOf, sharing, limbsOf, sameLimbs, rooted, emission, told}
 
 abbrev blank : Node

@@ -15,12 +15,12 @@ use Rattle.laws.proofs.Cases.{by-test}
 use Rattle.ir.specs.Program.{most}
 use Rattle.ir.specs.Refusals.{gives}
 use Rattle.ir.specs.Words as Op
-use Rattle.builder.specs.Hashing.{Start}
-use Rattle.builder.specs.Words.{view, lookup}
-use Rattle.builder.specs.Table.{Table, table, room}
-use Rattle.builder.specs.Model.{pushList}
+use Rattle.node_table.specs.Hashing.{Start}
+use Rattle.node_table.specs.Words.{view, lookup}
+use Rattle.node_table.specs.Table.{Table, table, room}
+use Rattle.node_table.specs.Model.{pushList}
 use Rattle.builder.specs.Roots.{cleared}
-use Rattle.builder.proofs.Pushes.{sound-start}
+use Rattle.node_table.proofs.Pushes.{sound-start}
 use Rattle.builder.specs.Consts.{withBase, positionOf, constOf, newOf}
 use Rattle.built.specs.Draft.{Told, freshDraft, indexOf}
 use Rattle.built.specs.Memory.{Memory, fresh, baseAt, baseRoom, roomOf}

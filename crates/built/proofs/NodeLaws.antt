@@ -13,13 +13,13 @@ use lib.Seq.{getD-at}
 use borrow.Author.Tests.{le-ltb, ltb-true, le-leb}
 use Rattle.ir.specs.Words.{Node, nodeAt}
 use Rattle.builder.specs.declared.ir_builder.Expr.{Expr}
-use Rattle.builder.specs.Words.{node, view}
-use Rattle.builder.specs.Hashing.{Start}
-use Rattle.builder.specs.Table.{Table, Pushed, Sound, room, pushAt, push, appended}
-use Rattle.builder.specs.Model.{pushList}
+use Rattle.node_table.specs.Words.{node, view}
+use Rattle.node_table.specs.Hashing.{Start}
+use Rattle.node_table.specs.Table.{Table, Pushed, Sound, room, pushAt, push, appended}
+use Rattle.node_table.specs.Model.{pushList}
 use Rattle.builder.specs.Answers.{shortB, strangerB, pushed}
-use Rattle.builder.proofs.Laws.{cond-case, put-length, view-length}
-use Rattle.builder.proofs.Pushes.{kept, Kept}
+use Rattle.node_table.proofs.Laws.{cond-case, put-length, view-length}
+use Rattle.node_table.proofs.Pushes.{kept, Kept}
 use Rattle.built.specs.Draft.{stranger}
 
 -- ---- a push

@@ -17,9 +17,9 @@ use Rattle.ir.specs.Words as Op
 use Rattle.ir.specs.Words.{Node}
 use Rattle.ir.proofs.RefusalLaws.{numbered, done-quiet}
 use Rattle.builder.specs.declared.ir_builder.Expr.{Expr}
-use Rattle.builder.specs.Words.{node, lookup}
+use Rattle.node_table.specs.Words.{node, lookup}
 use Rattle.builder.specs.Calls.{indexRow, cellNode}
-use Rattle.builder.specs.Model.{pushList}
+use Rattle.node_table.specs.Model.{pushList}
 use Rattle.built.specs.Draft.{Draft, Room, Call, main, aux, challenge, alphaPower, tableOffset, constBase, constExt, add, sub, mul, neg, embed, emit, stranger, strangerRow, making, indexOf, Shared, sharing, limbsOf, sameLimbs, emission, told}
 use Rattle.built.specs.History.{replies, drafted, allDone, Wider, RoomDoesNotMatter}
 

@@ -3,7 +3,7 @@
 use mathlib.Core.List.{List, [], _∷_}
 use mathlib.Core.Path.{_≡_, sym, ap, ap₂, _∙_, subst}
 use Rattle.ir.specs.Refusals.{Said}
-use Rattle.builder.specs.Hashing.{startOf}
+use Rattle.node_table.specs.Hashing.{startOf}
 use Rattle.built.specs.Draft.{Call, main, aux, challenge, alphaPower, tableOffset, constBase, constExt, add, sub, mul, neg, embed, emit, freshDraft}
 use Rattle.built.specs.Memory.{Memory, Answered, withTable, answered, fresh, roomOf, Stands}
 use Rattle.built.specs.History.{answers, after, drafted}

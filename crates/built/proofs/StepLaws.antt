@@ -17,10 +17,10 @@ use Rattle.ir.specs.Refusals.{Said, Row, row, anyHolds, gives}
 use Rattle.ir.specs.Words as Op
 use Rattle.ir.specs.Words.{Node}
 use Rattle.builder.specs.declared.ir_builder.Expr.{Expr}
-use Rattle.builder.specs.Words.{node}
-use Rattle.builder.specs.Hashing.{Start}
-use Rattle.builder.specs.Table.{Table}
-use Rattle.builder.specs.Model.{pushList}
+use Rattle.node_table.specs.Words.{node}
+use Rattle.node_table.specs.Hashing.{Start}
+use Rattle.node_table.specs.Table.{Table}
+use Rattle.node_table.specs.Model.{pushList}
 use Rattle.builder.specs.Answers.{made, pushed}
 use Rattle.builder.specs.Calls.{shortRow, indexRow, cellNode, uniformOf, tableOffsetOf, cellOf, binaryOf, unaryOf}
 use Rattle.builder.specs.Roots.{emitOf}

@@ -17,7 +17,7 @@ use Rattle.ir.specs.declared.program.Counts.{Counts}
 use Rattle.ir.specs.Program.{most, nodeOk, tooManyNodes, shortTables, illFormed, checked}
 use Rattle.builder.specs.declared.ir_builder.IrBuilder.{IrBuilder}
 use Rattle.builder.specs.Gaps.{gapsOf}
-use Rattle.builder.specs.Hashing.{Start, hashOf, startOf}
+use Rattle.node_table.specs.Hashing.{Start, hashOf, startOf}
 use Rattle.built.specs.Draft.{Draft, Room, Call, told, freshDraft}
 use Rattle.built.specs.Memory.{Memory, answered, fresh, baseAt, extAt, baseRoom, extRoom, roomOf}
 use Rattle.built.specs.History.{answers, after, replies, drafted, StartsInside, programOf, gapsIn, BuilderFollowsRust, AnyHashWillDo, ProgramsAreWellFormed, GapsAreFound}

@@ -13,9 +13,9 @@ use Rattle.ir.specs.Refusals.{Said, Row, row, first, anyHolds, gives, foundAt}
 use Rattle.ir.specs.Words as Op
 use Rattle.ir.specs.Words.{Node}
 use Rattle.builder.specs.declared.ir_builder.Expr.{Expr}
-use Rattle.builder.specs.Words.{node}
+use Rattle.node_table.specs.Words.{node}
 use Rattle.builder.specs.Calls.{indexRow, cellNode}
-use Rattle.builder.specs.Model.{pushList}
+use Rattle.node_table.specs.Model.{pushList}
 
 -- the nodes; the values of the constants, those of the extension by their limbs; the root of each constraint
 pub record Draft : Type 0 where

@@ -9,8 +9,8 @@ use Rattle.ir.specs.Program.{most}
 use Rattle.ir.specs.Refusals.{gives, refuses}
 use Rattle.interp.specs.ExampleE as E
 use Rattle.builder.specs.declared.ir_builder.Expr.{Expr}
-use Rattle.builder.specs.Model.{pushList}
-use Rattle.builder.specs.Words.{same, view, lookup}
+use Rattle.node_table.specs.Model.{pushList}
+use Rattle.node_table.specs.Words.{same, view, lookup}
 use Rattle.built.specs.Draft.{Room, Call, main, aux, challenge, constBase, constExt, add, sub, mul, emit, freshDraft, stranger, indexOf, rooted, told}
 use Rattle.built.specs.History.{replies, drafted}
 

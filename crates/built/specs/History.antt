@@ -12,7 +12,7 @@ use Rattle.ir.specs.Program.{Program, tooManyNodes, tooManyRoots, shortProgram,
 use Rattle.ir.specs.Refusals.{Said, gives}
 use Rattle.ir.specs.Words.{Node}
 use Rattle.builder.specs.Gaps.{gapsOf}
-use Rattle.builder.specs.Hashing.{Start}
+use Rattle.node_table.specs.Hashing.{Start}
 use Rattle.builder.specs.Roots.{finished}
 use Rattle.built.specs.Draft.{Draft, Room, Call, told, freshDraft}
 use Rattle.built.specs.Memory.{Memory, answered, fresh, draftOf, roomOf, Stands}

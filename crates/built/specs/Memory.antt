@@ -9,9 +9,9 @@ use Rattle.field.specs.Base.{p}
 use Rattle.ir.specs.Program.{most}
 use Rattle.ir.specs.Refusals.{Said}
 use Rattle.builder.specs.declared.ir_builder.IrBuilder.{IrBuilder}
-use Rattle.builder.specs.Words.{view}
-use Rattle.builder.specs.Hashing.{Start}
-use Rattle.builder.specs.Table.{Table, table, room}
+use Rattle.node_table.specs.Words.{view}
+use Rattle.node_table.specs.Hashing.{Start}
+use Rattle.node_table.specs.Table.{Table, table, room}
 use Rattle.builder.specs.Answers.{Built, withNodes}
 use Rattle.builder.specs.Calls.{mainCellOf, auxCellOf, challengeOf, alphaPowerOf, tableOffsetOf, addOf, subOf, mulOf, negOf, embedOf}
 use Rattle.builder.specs.Roots.{emitOf, withRoots}

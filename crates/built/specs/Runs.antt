@@ -7,7 +7,7 @@ use Rattle.ir.specs.Refusals.{Said}
 use Rattle.builder.specs.declared.ir_builder.Answer.{Answer}
 use Rattle.builder.specs.declared.ir_builder.Emitted.{Emitted}
 use Rattle.builder.specs.declared.ir_builder.IrBuilder.{IrBuilder}
-use Rattle.builder.specs.Hashing.{startOf}
+use Rattle.node_table.specs.Hashing.{startOf}
 use Rattle.builder.specs.Answers.{Built, saidOfAnswer, builderAfter, Gives}
 use Rattle.builder.specs.Calls.{mainCellOf, auxCellOf, challengeOf, alphaPowerOf, tableOffsetOf, addOf, subOf, mulOf, negOf, embedOf}
 use Rattle.builder.specs.Consts.{constOf, constExtOf, withBases, withExts, empty, newOf, Interned, Interns}

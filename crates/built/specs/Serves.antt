@@ -19,7 +19,7 @@ use Rattle.lower.specs.declared.lower.Lowering.{Lowering}
 use Rattle.lower.specs.Answer.{Lists, Output, lowering, shortLists, shortOutput, countsOf, lowerSaid, LowerAnswer}
 use Rattle.lower.specs.Lower.{blobOf}
 use Rattle.lowered.specs.Faithful.{withConstants, Faithful}
-use Rattle.builder.specs.Hashing.{Start}
+use Rattle.node_table.specs.Hashing.{Start}
 use Rattle.built.specs.Draft.{Call}
 use Rattle.built.specs.Memory.{Memory}
 use Rattle.built.specs.History.{reached, programOf, OfHistories}

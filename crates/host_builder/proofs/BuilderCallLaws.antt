@@ -17,7 +17,7 @@ use Rattle.builder.specs.declared.ir_builder.Emitted.{Emitted}
 use Rattle.builder.specs.declared.ir_builder.Emitted.the-variants as Emits
 use Rattle.builder.specs.declared.ir_builder.Expr.{Expr}
 use Rattle.builder.specs.declared.ir_builder.IrBuilder.{IrBuilder}
-use Rattle.builder.specs.Table.{table}
+use Rattle.node_table.specs.Table.{table}
 use Rattle.builder.specs.Answers.{saidOfAnswer, builderAfter, Built, Gives}
 use Rattle.builder.specs.Consts.{Interned, Interns, withBases, withExts, empty}
 use Rattle.builder.specs.Gaps.{GapsAnswer}

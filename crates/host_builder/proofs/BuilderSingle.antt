@@ -4,7 +4,7 @@ use mathlib.Core.List.{List}
 use mathlib.Core.Path.{_≡_, sym, _∙_}
 use Prim.Native.Nat.{ℕ}
 use Rattle.ir.specs.Refusals.{Said}
-use Rattle.builder.specs.Table.{Table}
+use Rattle.node_table.specs.Table.{Table}
 use Rattle.builder.specs.Answers.{Built}
 use Rattle.builder.specs.Consts.{Interned}
 use Rattle.builder.specs.Roots.{Rooting}

@@ -11,7 +11,7 @@ use Rattle.ir.specs.Reads as Reads
 use Rattle.ir.specs.Refusals.{Said}
 use Rattle.builder.specs.declared.ir_builder.Expr.{Expr}
 use Rattle.builder.specs.declared.ir_builder.IrBuilder.{IrBuilder}
-use Rattle.builder.specs.Table.{Table, table}
+use Rattle.node_table.specs.Table.{Table, table}
 use Rattle.builder.specs.Answers.{Built}
 use Rattle.builder.specs.Consts.{Interned}
 use Rattle.builder.specs.Gaps.{gapsOf, gapsSaid}

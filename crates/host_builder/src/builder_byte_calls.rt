@@ -2,7 +2,7 @@
 // beside each: 1 where a room is too short for its bytes, before the call's own numbers. The bytes change on 0 alone.
 ghost use mathlib.Core.List.{[], _∷_};
 ghost use Rattle.builder.specs.declared.ir_builder.IrBuilder.{IrBuilder};
-ghost use Rattle.builder.specs.Hashing.{startOf};
+ghost use Rattle.node_table.specs.Hashing.{startOf};
 ghost use Rattle.builder.specs.Calls.{callOf, challengeOf, alphaPowerOf, tableOffsetOf, mainCellOf, auxCellOf, addOf, subOf, mulOf, negOf, embedOf};
 ghost use Rattle.builder.specs.Consts.{constOf, constExtOf, withBases, withExts, empty, newOf};
 ghost use Rattle.builder.specs.Roots.{emitOf};

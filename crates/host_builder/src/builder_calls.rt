@@ -4,8 +4,8 @@
 ghost use mathlib.Core.List.{[], _∷_};
 ghost use mathlib.Core.Path.{_≡_};
 ghost use Rattle.field.specs.Base.{signed};
-ghost use Rattle.builder.specs.Hashing.{startOf};
-ghost use Rattle.builder.specs.Table.{table};
+ghost use Rattle.node_table.specs.Hashing.{startOf};
+ghost use Rattle.node_table.specs.Table.{table};
 ghost use Rattle.builder.specs.Answers.{saidOfAnswer, builderAfter};
 ghost use Rattle.builder.specs.Calls.{callOf, challengeOf, alphaPowerOf, tableOffsetOf, mainCellOf, auxCellOf, addOf, subOf, mulOf, negOf, embedOf};
 ghost use Rattle.builder.specs.Consts.{constOf, constExtOf, newOf};

@@ -1,7 +1,7 @@
 -- `place` meets its contract.
 -- Assumes nothing.
 use denote.Ref.{now}
-use Rattle.builder.specs.Words.{wordsOf}
+use Rattle.node_table.specs.Words.{wordsOf}
 use Rattle.builder.proofs.AnswerLaws.{placed-gives}
 use borrow.Author.Needs.{needs}
 use Rattle.builder.proofs.ir_builder.place.Statement.{statement}

@@ -6,7 +6,7 @@ use Rattle.builder_bytes.proofs.PromiseLaws.{gives-short, first-fits, s
 use Rattle.bytewise.proofs.AnswerLaws.{front-long}
 use Rattle.builder_bytes.specs.Rooms.{lent}
 use Rattle.builder.specs.Calls.{callOf}
-use Rattle.builder.specs.Hashing.{startOf}
+use Rattle.node_table.specs.Hashing.{startOf}
 use Rattle.builder_bytes.proofs.calls.call_bytes.Statement.{statement}
 use Rattle.builder_bytes.proofs.calls.call_bytes.Tie as tie
 

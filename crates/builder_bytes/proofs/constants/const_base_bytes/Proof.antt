@@ -5,9 +5,9 @@ use Rattle.builder_bytes.proofs.RoomLaws.{still-roomy, after-roomy, aft
 use Rattle.builder_bytes.proofs.PromiseLaws.{first-fits, second-fits, wide-fits, interns-short, consts-short, interns-done}
 use Rattle.bytewise.proofs.AnswerLaws.{front-long}
 use Rattle.builder_bytes.specs.Rooms.{lent}
-use Rattle.builder.specs.Hashing.{startOf}
+use Rattle.node_table.specs.Hashing.{startOf}
 use Rattle.builder.specs.Consts.{constOf, withBases}
-use Rattle.builder.specs.Table.{table}
+use Rattle.node_table.specs.Table.{table}
 use Rattle.builder_bytes.proofs.constants.const_base_bytes.Statement.{statement}
 use Rattle.builder_bytes.proofs.constants.const_base_bytes.Tie as tie
 

@@ -20,8 +20,8 @@ use Rattle.builder.proofs.ir_builder.keeps.Reads as keeps-reads
 use Rattle.builder.proofs.ir_builder.leaf.Reads as leaf-reads
 use Rattle.builder.proofs.ir_builder.settle.Reads as settle-reads
 use Rattle.builder.proofs.ir_builder.short_nodes.Reads as short-nodes-reads
-use Rattle.builder.proofs.table.least.Reads as least-reads
-use Rattle.builder.proofs.table.push.Reads as push-reads
+use Rattle.node_table.proofs.table.least.Reads as least-reads
+use Rattle.node_table.proofs.table.push.Reads as push-reads
 
 short-nodes-requires : tie.Need-short-nodes-requires
 short-nodes-requires c κs = search needs

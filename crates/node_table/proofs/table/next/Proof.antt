@@ -1,0 +1,21 @@
+-- `next` meets its contract.
+-- Assumes nothing.
+use borrow.Author.Tests.{lt-ltb, le-ltb}
+use borrow.Author.Needs.{needs}
+use Rattle.node_table.proofs.table.next.Statement.{statement}
+use Rattle.node_table.proofs.table.next.Tie as tie
+
+add-if1 : tie.Need-add-if1
+add-if1 c = search needs
+
+add-result : tie.Need-add-result
+add-result c = search needs
+
+returns : tie.Need-returns
+returns c = rw (lt-ltb _ _ (c .if1 .taken))
+
+returns-2 : tie.Need-returns-2
+returns-2 c = rw (le-ltb _ _ (c .if1 .left))
+
+pub next-spec : {M : Type 1} → statement M
+next-spec = tie.close (tie.spec add-if1 add-result returns returns-2)
