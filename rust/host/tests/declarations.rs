@@ -140,6 +140,15 @@ fn wrapped() -> Calls {
                     let nodes = [slice("mut", "u32"), slice("mut", "u32")].concat();
                     [owned(["*mut usize"; 2]), nodes, slice("mut", "u64")].concat()
                 }
+                ["builder_bytes", ..] => {
+                    let words = [slice("mut", "u32"), slice("mut", "u32")].concat();
+                    [owned(["*mut usize"]), slice("mut", "u8"), slice("mut", "u8"), words].concat()
+                }
+                ["constants_bytes", ..] => {
+                    let bytes = [(); 3].map(|()| slice("mut", "u8")).concat();
+                    let words = ["u32", "u32", "u64"].map(|word| slice("mut", word)).concat();
+                    [owned(["*mut usize"; 2]), bytes, words].concat()
+                }
                 ["handle", ..] => owned(["u32"; 2]),
                 ["made", ..] => owned(["*mut u32"; 2]),
                 _ => panic!("a parameter that is not understood: {parameter}"),

@@ -35,22 +35,22 @@ pub struct Filled {
     pub roots: usize,
 }
 
-/// A builder in lent words. What fits is the least of the nodes, the places and 536,870,911; a table of constants too stops
-/// there.
+/// A builder in lent words; in [`builder_bytes`](super::builder_bytes) its tables are bytes. What fits is the least of the
+/// nodes, the places and 536,870,911; a table of constants too stops there.
 #[derive(Debug)]
-pub struct Tables<'a> {
+pub struct Tables<'a, Short = u32, Long = u64> {
     /// How much of each table is filled.
     pub filled: Filled,
     /// Four words a node.
-    pub nodes: &'a mut [u32],
+    pub nodes: &'a mut [Short],
     /// One word a place. Twice as many as nodes is a good number.
-    pub places: &'a mut [u32],
+    pub places: &'a mut [Short],
     /// One word a constant.
-    pub base_consts: &'a mut [u64],
+    pub base_consts: &'a mut [Long],
     /// Three words a constant.
-    pub ext_consts: &'a mut [u64],
+    pub ext_consts: &'a mut [Long],
     /// One word a constraint.
-    pub roots: &'a mut [u32],
+    pub roots: &'a mut [Short],
 }
 
 impl Tables<'_> {

@@ -5,6 +5,7 @@
 
 pub mod blob;
 pub mod builder;
+pub mod builder_bytes;
 pub mod bytes;
 pub mod lower;
 pub mod program;
@@ -14,7 +15,8 @@ pub mod program;
 /// After the name stand the call's parameters, in the order of `include/cir.h`. A slice is two of C's parameters, pointer and
 /// length. Parameters that several calls have in a row stand here once, under one word: `counts` of a program, `blob_counts`,
 /// `shape` and `offset` of a frame, `tables` of a program or blob, `cells` of a frame, `rooms` for tables, and `lists`; of a
-/// `builder` the nodes and places, with a table of its `constants` too, the `handle` of a node, and one that is `made`.
+/// `builder` the nodes and places, with a table of its `constants` too, both also over bytes, with the rooms for their words;
+/// the `handle` of a node, and one that is `made`.
 ///
 /// No linker checks the types against the library: `tests/declarations.rs` holds them to its source and to the header.
 macro_rules! call {
@@ -106,6 +108,31 @@ macro_rules! call {
             write u32 $builder.nodes,
             write u32 $builder.places,
             write u64 $builder.$table,
+            $($rest)*
+        )
+    };
+    (@ $call:ident $types:tt $values:tt builder_bytes $builder:expr, $($rest:tt)*) => {
+        $crate::lent::call!(
+            @ $call $types $values
+            out usize &mut $builder.bytes.filled.nodes,
+            write u8 $builder.bytes.nodes,
+            write u8 $builder.bytes.places,
+            write u32 $builder.words.nodes,
+            write u32 $builder.words.places,
+            $($rest)*
+        )
+    };
+    (@ $call:ident $types:tt $values:tt constants_bytes $table:ident $builder:expr, $($rest:tt)*) => {
+        $crate::lent::call!(
+            @ $call $types $values
+            out usize &mut $builder.bytes.filled.nodes,
+            out usize &mut $builder.bytes.filled.$table,
+            write u8 $builder.bytes.nodes,
+            write u8 $builder.bytes.places,
+            write u8 $builder.bytes.$table,
+            write u32 $builder.words.nodes,
+            write u32 $builder.words.places,
+            write u64 $builder.words.constants,
             $($rest)*
         )
     };
