@@ -28,6 +28,15 @@ pub struct Compared {
 /// Makes a random row of calls and compares it.
 #[track_caller]
 pub fn random_row(score: &mut Score, random: &mut Random, compared: &mut Compared, what: Arguments<'_>) {
+    let (calls, list, rooms) = with_room(random);
+    row(score, compared, &calls, &rooms, what);
+    if random.once_in(8) {
+        owned(score, &calls, &list, what);
+    }
+}
+
+/// A random row of calls, what it comes to, and rooms for all of that.
+pub fn with_room(random: &mut Random) -> (Vec<Call>, List, Rooms) {
     let recipe = Recipe {
         calls: if random.once_in(50) { 300 } else { random.below(50) },
         leaves: random.pick(&[1, 2, 3, 8]),
@@ -42,15 +51,18 @@ pub fn random_row(score: &mut Score, random: &mut Random, compared: &mut Compare
     for room in rooms.each_mut() {
         *room += random.pick(&[0, 0, 1, 5]);
     }
-    row(score, compared, &calls, &rooms, what);
-    if random.once_in(8) {
-        owned(score, &calls, &list, what);
-    }
+    (calls, list, rooms)
 }
 
 /// A random row of calls in rooms of which one is short, or several.
 #[track_caller]
 pub fn short_row(score: &mut Score, random: &mut Random, what: Arguments<'_>) {
+    let (calls, rooms) = short_of_room(random);
+    in_rooms(score, &calls, &rooms, what);
+}
+
+/// A random row of calls, and rooms of which one is short for it, or several.
+pub fn short_of_room(random: &mut Random) -> (Vec<Call>, Rooms) {
     let recipe = Recipe {
         calls: random.below(30),
         leaves: 3,
@@ -65,12 +77,12 @@ pub fn short_row(score: &mut Score, random: &mut Random, what: Arguments<'_>) {
         let room = &mut *rooms.each_mut()[short];
         *room = random.below(*room + 1);
     }
-    in_rooms(score, &calls, &rooms, what);
+    (calls, rooms)
 }
 
 /// Calls on fresh builders, where there is room for all: every number and dim, every answer, and the program.
 #[track_caller]
-pub fn row(score: &mut Score, compared: &mut Compared, calls: &[Call], rooms: &Rooms, what: Arguments<'_>) {
+pub fn row(score: &mut Score, compared: &mut Compared, calls: &[Call], rooms: &Rooms, what: Arguments<'_>) -> Memory {
     let what = format_args!("{what}, {rooms:?}, {calls:?}");
     let mut memory = Memory::unwritten(rooms);
     let (answer, zero) = memory.call(score, &Call::New, what);
@@ -111,6 +123,7 @@ pub fn row(score: &mut Score, compared: &mut Compared, calls: &[Call], rooms: &R
     compared.calls += calls.len() as u64;
     compared.nodes += list.nodes.len() as u64;
     score.agreed += 1;
+    memory
 }
 
 /// All calls in these rooms, on the host's builder and the two plain ones, and the gaps after them.

@@ -34,15 +34,23 @@ pub struct Words {
 }
 
 /// What a guard holds, and a word that nobody has written: not 0, no id, and all different.
-fn fresh_short(at: usize) -> u32 {
+pub(super) fn fresh_short(at: usize) -> u32 {
     u32::MAX - at as u32
 }
 
-fn fresh(at: usize) -> u64 {
+pub(super) fn fresh(at: usize) -> u64 {
     u64::MAX - at as u64
 }
 
-fn between_guards<T: Copy>(words: &[T], guard: impl Fn(usize) -> T) -> impl Fn(usize) -> T {
+/// The word for a handle, before a call makes one.
+pub(super) fn unmade() -> Lent<Handle> {
+    Lent::filled(1, |at| Handle {
+        id: fresh_short(2 * at),
+        dim: fresh_short(2 * at + 1),
+    })
+}
+
+pub(super) fn between_guards<T: Copy>(words: &[T], guard: impl Fn(usize) -> T) -> impl Fn(usize) -> T {
     move |at| match at.checked_sub(GUARD) {
         Some(inside) if inside < words.len() => words[inside],
         _ => guard(at),
@@ -61,10 +69,7 @@ impl Memory {
             base_consts: longs(&words.base_consts),
             ext_consts: longs(&words.ext_consts),
             roots: shorts(&words.roots),
-            made: Lent::filled(1, |at| Handle {
-                id: fresh_short(2 * at),
-                dim: fresh_short(2 * at + 1),
-            }),
+            made: unmade(),
         }
     }
 

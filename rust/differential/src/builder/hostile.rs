@@ -73,7 +73,7 @@ fn constant(random: &mut Random) -> u64 {
 }
 
 /// Tables of any words.
-fn any_words(random: &mut Random) -> Words {
+pub(super) fn any_words(random: &mut Random) -> Words {
     let lent = random.below(9);
     let nodes = [
         (0..lent).flat_map(|_| node(random, lent)).collect(),
@@ -153,7 +153,7 @@ fn call_for(words: &Words, id: usize) -> Option<Call> {
     })
 }
 
-fn any_call(random: &mut Random, words: &Words) -> Call {
+pub(super) fn any_call(random: &mut Random, words: &Words) -> Call {
     let id = random.below(words.nodes.len() / 4 + 1);
     match call_for(words, id) {
         Some(call) if random.once_in(2) => call,

@@ -1,6 +1,7 @@
 //! Calls of the builder, in rows that are replayed on several builders: ours, the published one, and two plain ones.
 
 pub mod agree;
+pub mod bytes;
 pub mod compare;
 pub mod hostile;
 pub mod owned;
@@ -9,9 +10,11 @@ pub mod sample;
 
 use host::Refusal;
 use host::lent::builder::{Filled, Handle, Tables};
+use host::lent::builder_bytes::ByteTables;
 
 use crate::inputs::Random;
 use crate::plain::builder::List;
+use crate::plain::from_i64;
 use crate::programs::compare::Answer;
 use crate::{Limbs, P};
 
@@ -36,27 +39,39 @@ pub enum Call {
     Emit(usize, Handle),
 }
 
+/// A call on lent tables, which have all calls but that for signed constants under the same names in words and in bytes.
+macro_rules! on_tables {
+    ($call:expr, $tables:expr, $made:expr, |$signed:ident| $const_signed:expr) => {
+        match $call {
+            Call::New => $tables.fresh($made),
+            Call::Main { offset, column } => $tables.main(offset, column, $made),
+            Call::Aux { offset, column } => $tables.aux(offset, column, $made),
+            Call::Challenge(index) => $tables.challenge(index, $made),
+            Call::AlphaPower(index) => $tables.alpha_power(index, $made),
+            Call::TableOffset => $tables.table_offset($made),
+            Call::ConstBase(value) => $tables.const_base(value, $made),
+            Call::ConstSigned($signed) => $const_signed,
+            Call::ConstExt(value) => $tables.const_ext(value, $made),
+            Call::One => $tables.one($made),
+            Call::Add(a, b) => $tables.add(a, b, $made),
+            Call::Sub(a, b) => $tables.sub(a, b, $made),
+            Call::Mul(a, b) => $tables.mul(a, b, $made),
+            Call::Neg(a) => $tables.neg(a, $made),
+            Call::Embed(a) => $tables.embed(a, $made),
+            Call::Emit(constraint, root) => $tables.emit(constraint, root),
+        }
+    };
+}
+
 impl Call {
     /// The host's answer. `Emit` makes no handle.
     pub fn on_host(&self, tables: &mut Tables, made: &mut Handle) -> Answer {
-        match *self {
-            Call::New => tables.fresh(made),
-            Call::Main { offset, column } => tables.main(offset, column, made),
-            Call::Aux { offset, column } => tables.aux(offset, column, made),
-            Call::Challenge(index) => tables.challenge(index, made),
-            Call::AlphaPower(index) => tables.alpha_power(index, made),
-            Call::TableOffset => tables.table_offset(made),
-            Call::ConstBase(value) => tables.const_base(value, made),
-            Call::ConstSigned(value) => tables.const_signed(value, made),
-            Call::ConstExt(value) => tables.const_ext(value, made),
-            Call::One => tables.one(made),
-            Call::Add(a, b) => tables.add(a, b, made),
-            Call::Sub(a, b) => tables.sub(a, b, made),
-            Call::Mul(a, b) => tables.mul(a, b, made),
-            Call::Neg(a) => tables.neg(a, made),
-            Call::Embed(a) => tables.embed(a, made),
-            Call::Emit(constraint, root) => tables.emit(constraint, root),
-        }
+        on_tables!(*self, tables, made, |value| tables.const_signed(value, made))
+    }
+
+    /// The host's answer over bytes, where a signed constant is asked for by its word.
+    pub fn on_bytes(&self, tables: &mut ByteTables, made: &mut Handle) -> Answer {
+        on_tables!(*self, tables, made, |value| tables.const_base(from_i64(value), made))
     }
 }
 

@@ -32,10 +32,11 @@ impl Kind {
 }
 
 /// All kinds, in the order in which they take turns.
-pub const KINDS: [Kind; 12] = [
+pub const KINDS: [Kind; 13] = [
     Kind::new("builder calls", builder::calls),
     Kind::new("full builder", builder::full),
     Kind::new("any builder memory", builder::any_memory),
+    Kind::new("builder in bytes", builder::in_bytes),
     Kind::new("built program", programs::built),
     Kind::new("foreign program", programs::foreign),
     Kind::new("changed program", programs::changed),
