@@ -419,6 +419,11 @@ uint64_t cir_builder_const_base_bytes(size_t *n, size_t *base_count, uint8_t *no
                                       size_t base_consts_len, uint32_t *node_words, size_t node_words_len,
                                       uint32_t *place_words, size_t place_words_len, uint64_t *const_words,
                                       size_t const_words_len, uint64_t v, uint32_t *id, uint32_t *dim);
+uint64_t cir_builder_const_signed_bytes(size_t *n, size_t *base_count, uint8_t *nodes, size_t nodes_len,
+                                        uint8_t *places, size_t places_len, uint8_t *base_consts,
+                                        size_t base_consts_len, uint32_t *node_words, size_t node_words_len,
+                                        uint32_t *place_words, size_t place_words_len, uint64_t *const_words,
+                                        size_t const_words_len, int64_t v, uint32_t *id, uint32_t *dim);
 uint64_t cir_builder_one_bytes(size_t *n, size_t *base_count, uint8_t *nodes, size_t nodes_len, uint8_t *places,
                                size_t places_len, uint8_t *base_consts, size_t base_consts_len, uint32_t *node_words,
                                size_t node_words_len, uint32_t *place_words, size_t place_words_len,

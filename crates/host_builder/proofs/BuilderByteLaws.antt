@@ -1,9 +1,10 @@
 -- The builder's calls on bytes: from what the function promises to what the call does, and one answer and one memory of each.
 -- Assumes nothing.
 use mathlib.Core.List.{List}
-use mathlib.Core.Path.{_≡_, refl, sym, ap, _∙_}
-use Prim.Native.Nat.{ℕ}
+use mathlib.Core.Path.{_≡_, refl, sym, ap, subst, _∙_}
+use Prim.Native.Nat.{ℕ, _%_}
 use borrow.Author.Tests.{ne-eqb}
+use Rattle.field.specs.Base.{p}
 use Rattle.ir.specs.declared.refusal.Refusal.{Refusal}
 use Rattle.ir.specs.Refusals.{saidOf}
 use Rattle.ir.proofs.RefusalLaws.{refusal-number}
@@ -14,9 +15,12 @@ use Rattle.builder.specs.declared.ir_builder.Emitted.{Emitted}
 use Rattle.builder.specs.declared.ir_builder.Emitted.the-variants as Emits
 use Rattle.builder.specs.declared.ir_builder.IrBuilder.{IrBuilder}
 use Rattle.builder.specs.Answers.{saidOfAnswer, builderAfter, Built}
-use Rattle.builder.specs.Consts.{Interned}
+use Rattle.builder.specs.Consts.{Interned, withBases, constOf}
 use Rattle.builder.specs.Gaps.{saidOfGaps}
 use Rattle.builder.specs.Roots.{saidOfEmitted, builderEmitted, Rooting}
+use Rattle.node_table.specs.Hashing.{startOf}
+use Rattle.node_table.specs.Table.{Table}
+use Rattle.builder.proofs.ConstLaws.{by-value}
 use Rattle.builder_bytes.specs.Rooms.{Lent}
 use Rattle.builder_bytes.specs.Promises.{GivesBytes, InternsBytes, EmitBytes, GapsBytes}
 use Rattle.builder_bytes.proofs.Single.{gives-bytes-single, interns-bytes-single, emit-bytes-single, gaps-bytes-single}
@@ -34,6 +38,19 @@ module _ {P : Answer → Type 0} {b : IrBuilder} (r : Answer) (now : IrBuilder) 
   pub const-bytes-hands : (of : IrBuilder → ℕ) → HandsConstBytes P b of a id id′ dim dim′ (now .nodes) (of now)
   const-bytes-hands of =
       record { outcome = r; promised = p; handed = h; counted = ap (λ (x : IrBuilder). x .nodes) e; held = ap of e }
+
+-- a constant by its remainder is the constant
+pub value-bytes-hands : {b c : IrBuilder} {of : IrBuilder → ℕ} {nodes places consts nodes′ places′ consts′ : Lent} (t : Table) (bs : List ℕ) (m x v : ℕ) {a id id′ dim dim′ n′ m′ : ℕ} → x ≡ v % p
+    → HandsConstBytes (λ r. InternsBytes withBases (constOf startOf t bs m x) b nodes places consts r nodes′ places′ consts′) c of a id id′ dim dim′ n′ m′
+    → HandsConstBytes (λ r. InternsBytes withBases (constOf startOf t bs m v) b nodes places consts r nodes′ places′ consts′) c of a id id′ dim dim′ n′ m′
+value-bytes-hands {b} {c} {of} {nodes} {places} {consts} {nodes′} {places′} {consts′} t bs m x v e f =
+    record {
+      outcome = f .outcome;
+      promised = subst (λ (o : Interned). InternsBytes withBases o b nodes places consts (f .outcome) nodes′ places′ consts′) (by-value t bs m x v e) (f .promised);
+      handed = f .handed;
+      counted = f .counted;
+      held = f .held;
+    }
 
 module _ {P : Emitted → Type 0} {b : IrBuilder} {r : Emitted} (p : P r) where
   pub root-bytes-set : {now : IrBuilder} → r ≡ Emits.Rooted now → HandsRootBytes P b 0 (now .roots)

@@ -3,6 +3,7 @@
 ghost use mathlib.Core.List.{[], _∷_};
 ghost use Rattle.builder.specs.declared.ir_builder.IrBuilder.{IrBuilder};
 ghost use Rattle.node_table.specs.Hashing.{startOf};
+ghost use Rattle.field.specs.Base.{signed};
 ghost use Rattle.builder.specs.Calls.{callOf, challengeOf, alphaPowerOf, tableOffsetOf, mainCellOf, auxCellOf, addOf, subOf, mulOf, negOf, embedOf};
 ghost use Rattle.builder.specs.Consts.{constOf, constExtOf, withBases, withExts, empty, newOf};
 ghost use Rattle.builder.specs.Roots.{emitOf};
@@ -23,6 +24,7 @@ use builder_bytes::constants::const_ext_bytes;
 use builder_bytes::constants::new_bytes;
 use builder_bytes::roots::emit_bytes;
 use builder_bytes::roots::gap_report_bytes;
+use field::goldilocks::Fp;
 use host_answer::answer::coded_refusal;
 use host_answer::answer::ext_of;
 
@@ -198,6 +200,26 @@ pub extern "C" fn cir_builder_const_base_bytes(
     ensures { λ a. ⌜ HandsConstBytes (λ o. InternsBytes withBases (constOf startOf (heldTable (lent (now (nodes .entry)) (now (nw .entry))) (lent (now (places .entry)) (now (pw .entry))) (now (n .entry))) (held 8 (lent (now (bases .entry)) (now (cw .entry)))) (now (b .entry)) v) (lentCounts (now (n .entry)) (now (b .entry)) 0 0) (lent (now (nodes .entry)) (now (nw .entry))) (lent (now (places .entry)) (now (pw .entry))) (lent (now (bases .entry)) (now (cw .entry))) o (lent (now (nodes .exit)) (now (nw .exit))) (lent (now (places .exit)) (now (pw .exit))) (lent (now (bases .exit)) (now (cw .exit)))) (lentCounts (now (n .entry)) (now (b .entry)) 0 0) (λ (after : IrBuilder). after .bases) a (now (id .entry)) (now (id .exit)) (now (dim .entry)) (now (dim .exit)) (now (n .exit)) (now (b .exit)) ⌝ }
 {
     const_bytes(n, b, nodes, places, bases, nw, pw, cw, v, id, dim)
+}
+
+#[no_mangle]
+pub extern "C" fn cir_builder_const_signed_bytes(
+    n: &mut usize,
+    b: &mut usize,
+    nodes: &mut [u8],
+    places: &mut [u8],
+    bases: &mut [u8],
+    nw: &mut [u32],
+    pw: &mut [u32],
+    cw: &mut [u64],
+    v: i64,
+    id: &mut u32,
+    dim: &mut u32,
+) -> u64
+    ensures { λ a. ⌜ HandsConstBytes (λ o. InternsBytes withBases (constOf startOf (heldTable (lent (now (nodes .entry)) (now (nw .entry))) (lent (now (places .entry)) (now (pw .entry))) (now (n .entry))) (held 8 (lent (now (bases .entry)) (now (cw .entry)))) (now (b .entry)) (signed v)) (lentCounts (now (n .entry)) (now (b .entry)) 0 0) (lent (now (nodes .entry)) (now (nw .entry))) (lent (now (places .entry)) (now (pw .entry))) (lent (now (bases .entry)) (now (cw .entry))) o (lent (now (nodes .exit)) (now (nw .exit))) (lent (now (places .exit)) (now (pw .exit))) (lent (now (bases .exit)) (now (cw .exit)))) (lentCounts (now (n .entry)) (now (b .entry)) 0 0) (λ (after : IrBuilder). after .bases) a (now (id .entry)) (now (id .exit)) (now (dim .entry)) (now (dim .exit)) (now (n .exit)) (now (b .exit)) ⌝ }
+{
+    let w = Fp::from_i64(v);
+    const_bytes(n, b, nodes, places, bases, nw, pw, cw, w, id, dim)
 }
 
 #[no_mangle]
