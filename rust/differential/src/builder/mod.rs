@@ -14,7 +14,6 @@ use host::lent::builder_bytes::ByteTables;
 
 use crate::inputs::Random;
 use crate::plain::builder::List;
-use crate::plain::from_i64;
 use crate::programs::compare::Answer;
 use crate::{Limbs, P};
 
@@ -39,9 +38,9 @@ pub enum Call {
     Emit(usize, Handle),
 }
 
-/// A call on lent tables, which have all calls but that for signed constants under the same names in words and in bytes.
+/// A call on lent tables, which have all calls under the same names in words and in bytes.
 macro_rules! on_tables {
-    ($call:expr, $tables:expr, $made:expr, |$signed:ident| $const_signed:expr) => {
+    ($call:expr, $tables:expr, $made:expr) => {
         match $call {
             Call::New => $tables.fresh($made),
             Call::Main { offset, column } => $tables.main(offset, column, $made),
@@ -50,7 +49,7 @@ macro_rules! on_tables {
             Call::AlphaPower(index) => $tables.alpha_power(index, $made),
             Call::TableOffset => $tables.table_offset($made),
             Call::ConstBase(value) => $tables.const_base(value, $made),
-            Call::ConstSigned($signed) => $const_signed,
+            Call::ConstSigned(value) => $tables.const_signed(value, $made),
             Call::ConstExt(value) => $tables.const_ext(value, $made),
             Call::One => $tables.one($made),
             Call::Add(a, b) => $tables.add(a, b, $made),
@@ -66,12 +65,12 @@ macro_rules! on_tables {
 impl Call {
     /// The host's answer. `Emit` makes no handle.
     pub fn on_host(&self, tables: &mut Tables, made: &mut Handle) -> Answer {
-        on_tables!(*self, tables, made, |value| tables.const_signed(value, made))
+        on_tables!(*self, tables, made)
     }
 
-    /// The host's answer over bytes, where a signed constant is asked for by its word.
+    /// The host's answer over bytes.
     pub fn on_bytes(&self, tables: &mut ByteTables, made: &mut Handle) -> Answer {
-        on_tables!(*self, tables, made, |value| tables.const_base(from_i64(value), made))
+        on_tables!(*self, tables, made)
     }
 }
 

@@ -72,6 +72,11 @@ impl ByteTables<'_> {
         done(call!(cir_builder_const_base_bytes: constants_bytes base_consts self, number u64 value, made made,))
     }
 
+    /// As [`Tables::const_signed`].
+    pub fn const_signed(&mut self, value: i64, made: &mut Handle) -> Result<(), Refusal> {
+        done(call!(cir_builder_const_signed_bytes: constants_bytes base_consts self, number i64 value, made made,))
+    }
+
     /// As [`Tables::const_ext`].
     pub fn const_ext(&mut self, value: Ext, made: &mut Handle) -> Result<(), Refusal> {
         let [a, b, c] = value;
