@@ -1,5 +1,5 @@
-/* The calls of three static libraries, which `./libraries` writes to target/staticlib/: libhost_field.a has the field's,
- * libhost_builder.a the builder's, libhost.a those on programs and blobs.
+/* The calls of four static libraries, which `./libraries` writes to target/staticlib/: libhost_field.a has the field's,
+ * libhost_builder.a the builder's, libhost_stored.a those on stored files alone, libhost.a those on programs and blobs.
  *
  * A field value is a word that stands for its remainder by p = 2^64 - 2^32 + 1. Every word is taken; every word that a
  * call writes or returns as a value is below p. An extension value is three words in a row, over w with w cubed = 2.
@@ -317,6 +317,25 @@ uint64_t cir_walk(uint32_t n, uint32_t base_count, uint32_t ext_count, uint32_t 
  * that the caller lends beside; a room may be longer, and its words past those are not touched. A length is in bytes where
  * bytes are lent, else in words.
  */
+
+/* the blob is written in form A at the front of file, and its length in bytes into length; else 1, where a table is shorter
+ * than the counts say, or 10, where the file is too short or the body is over 4,294,967,295 words, with nothing written */
+uint64_t cir_write_stored(uint32_t n, uint32_t base_count, uint32_t ext_count, uint32_t root_count, uint32_t num_base,
+                          uint32_t base_slots, uint32_t ext_slots, const uint32_t *nodes, size_t nodes_len,
+                          const uint64_t *base_consts, size_t base_consts_len, const uint64_t *ext_consts,
+                          size_t ext_consts_len, const uint32_t *roots, size_t roots_len, uint8_t *file,
+                          size_t file_len, uint64_t *length);
+
+/* the file is read to the front of the four rooms, and its counts into the seven numbers; nothing but the framing is judged.
+ * Else 15 or 10, with nothing written */
+uint64_t cir_read_stored(const uint8_t *file, size_t file_len, uint32_t *nodes, size_t nodes_len,
+                         uint64_t *base_consts, size_t base_consts_len, uint64_t *ext_consts, size_t ext_consts_len,
+                         uint32_t *roots, size_t roots_len, uint32_t *n, uint32_t *base_count, uint32_t *ext_count,
+                         uint32_t *root_count, uint32_t *num_base, uint32_t *base_slots, uint32_t *ext_slots);
+
+/* what the program blob-list prints of the file, at the front of out, and its length into length: the listing, or one line
+ * `refused` and the number. Else 10, where out has less than 524,288 bytes, with nothing written */
+uint64_t cir_list_stored(const uint8_t *file, size_t file_len, uint8_t *out, size_t out_len, uint64_t *length);
 
 /* the file is read into the four rooms, then checked as cir_check_blob does. Else 15 or 10, with nothing written; or 2, 1,
  * 11 or 12, with the blob in the rooms. */

@@ -3,8 +3,8 @@
 use std::env;
 use std::path::{Path, PathBuf};
 
-/// What include/cir.h declares: the field's calls, the builder's, and those on programs and blobs.
-const LIBRARIES: [&str; 3] = ["host_field", "host_builder", "host"];
+/// What include/cir.h declares: the field's calls, the builder's, those on stored files, and those on programs and blobs.
+const LIBRARIES: [&str; 4] = ["host_field", "host_builder", "host_stored", "host"];
 
 /// Names the folder that holds them, if it is not where the toolchain puts them.
 const VARIABLE: &str = "HOST_LIB_DIR";
@@ -33,7 +33,7 @@ fn main() {
             );
             println!(
                 "cargo::error=run `./libraries` in the project's root first, \
-                 or set {VARIABLE} to the absolute path of the folder that holds the three libraries"
+                 or set {VARIABLE} to the absolute path of the folder that holds the four libraries"
             );
             return;
         }

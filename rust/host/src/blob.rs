@@ -1,8 +1,8 @@
 //! Blobs that own their words and their stored form.
 
 use crate::lent::blob::{self as lent, BlobCounts, Written};
-use crate::lent::bytes;
 use crate::lent::lower::Rooms;
+use crate::lent::stored;
 use crate::{Error, Ext, Frame, Shape, Value};
 
 /// Words of a stored form's trailer.
@@ -80,17 +80,9 @@ impl Blob {
             most(counts.ext_consts, 24),
             most(counts.roots, 4),
         );
-        // The call reads, then checks. No shape has so many steps, so what it says after reading is always the same.
-        let no_shape = Shape {
-            steps: usize::MAX,
-            ..Shape::default()
-        };
-        let said = bytes::check_stored(file, &no_shape, tables.lend_mut(), &mut []);
-        match said.map_err(Error::from) {
-            Err(Error::OverLimit) => Ok(Blob::of(file.to_vec(), tables)),
-            Err(refused) => Err(refused),
-            Ok(()) => unreachable!("a shape over its limit is refused"),
-        }
+        let mut read = BlobCounts::default();
+        stored::read_stored(file, tables.lend_mut(), &mut read)?;
+        Ok(Blob::of(file.to_vec(), tables))
     }
 
     /// The blob in stored form A.

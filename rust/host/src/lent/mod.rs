@@ -9,6 +9,7 @@ pub mod builder_bytes;
 pub mod bytes;
 pub mod lower;
 pub mod program;
+pub mod stored;
 
 /// Declares a call of the library and makes it; gives its answer.
 ///

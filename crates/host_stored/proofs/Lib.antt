@@ -1,0 +1,2 @@
+-- The proofs of the calls on form A.
+pub mod StoredCallLaws
