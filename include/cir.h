@@ -45,7 +45,7 @@
  *    1  a table that the call is lent is shorter than its count says
  *    2  a column, challenge or alpha index is over 65,535
  *    3  a handle is of no node: its id is not below n, or its dim is not that node's
- *    6  the constraint is past the root room
+ *    6  the constraint is at or past the root room
  *    5  the constant is new and its table is full
  *    4  the node is new and there is no room for it
  *   10  the output is too short; this is of the gap report alone, after 1
@@ -175,7 +175,9 @@ uint64_t cir_eval_program_base(size_t n, size_t base_count, size_t ext_count, si
  *
  * A program is built in the caller's tables, one call a node; the counts are the caller's too, and each call is lent the
  * tables and counts that it touches and no others. nodes has four words a node, places one word a node at least: there is
- * room for the smaller of both, at most 536,870,911. More places make a lookup shorter. base_consts has one word a constant,
+ * room for the smaller of both, at most 536,870,911. Twice as many places as nodes make lookups short. Lend the same places,
+ * of the same length, to every call of one builder: over another length an equal node is not found again. The other tables
+ * may be lent longer from one call to the next, with their words in front. base_consts has one word a constant,
  * ext_consts three, roots one word a constraint: root room is its length. A table may hold any words past its count; the
  * places are the builder's own, and cir_builder_new clears them.
  *
@@ -188,7 +190,8 @@ uint64_t cir_eval_program_base(size_t n, size_t base_count, size_t ext_count, si
  */
 
 /* a fresh builder: every place is freed, and node 0 is the base constant 0. After 0 n and base_count are 1; what they were
- * before counts for nothing. The extension constants and the roots of a fresh builder are 0. Else 5 or 4. */
+ * before counts for nothing. The caller sets its counts of extension constants and roots to 0. Else 5 or
+ * 4. */
 uint64_t cir_builder_new(size_t *n, size_t *base_count, uint32_t *nodes, size_t nodes_len, uint32_t *places,
                          size_t places_len, uint64_t *base_consts, size_t base_consts_len, uint32_t *id,
                          uint32_t *dim);
@@ -384,7 +387,7 @@ uint64_t cir_walk_stored(size_t steps, size_t main_width, size_t aux_width, size
 
 /* ---- the builder over bytes
  *
- * The builder's calls with their tables as little-endian words: nodes, places and roots of four bytes a word, constants and
+ * The builder's calls with their tables as little-endian words, and the same rule for places: nodes, places and roots of four bytes a word, constants and
  * the gap report of eight. A room is lent beside each table, node_words for nodes and so on: 1, before the numbers of the
  * call on words, where one has fewer words than its bytes, and then no room has changed. Else the rooms have the words at
  * their fronts, also after a refusal of the call; the bytes have changed on 0 alone.

@@ -13,7 +13,7 @@ use Rattle.ir.specs.Refusals.{Said, Row, row, first, gives, saidOf}
 use Rattle.builder.specs.declared.gaps.Gaps.{Gaps}
 use Rattle.builder.specs.declared.gaps.Gaps.the-variants.{Listed, Refused}
 
--- the rule: a constraint whose root is node 0 has none of its own
+-- the rule: a constraint whose root is node 0, which fills gaps, counts as one
 abbrev pub noRoot : ℕ → Bool
 noRoot root = eqb root 0
 

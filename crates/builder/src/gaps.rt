@@ -1,4 +1,4 @@
-// The gap report: the constraints below the root count that were left without a root.
+// The gap report: the constraints below the root count whose root is node 0, which is what a gap is filled with.
 ghost use mathlib.Core.Bool.{cond};
 ghost use mathlib.Core.List.{[], _∷_};
 ghost use mathlib.Core.Path.{_≡_};

@@ -49,7 +49,7 @@ use node_table::table::push;
 use node_table::table::room;
 use node_table::table::wide;
 
-// What the lent tables hold.
+// How many of each the lent tables hold.
 pub struct IrBuilder {
     pub nodes: usize,
     pub bases: usize,

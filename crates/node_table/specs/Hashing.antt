@@ -1,4 +1,5 @@
--- The mixed hash of a node, and where its lookup starts. Nothing but the speed of a lookup hangs on it.
+-- The mixed hash of a node, and where its lookup starts. Over memory that builder calls made,
+-- nothing but the speed of a lookup hangs on it.
 -- Assumes nothing.
 use Prim.Native.Nat.{ℕ, _+_, _*_, _/_, _%_, _^_}
 use Rattle.ir.specs.Words.{Node}

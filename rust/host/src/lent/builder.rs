@@ -43,7 +43,8 @@ pub struct Tables<'a, Short = u32, Long = u64> {
     pub filled: Filled,
     /// Four words a node.
     pub nodes: &'a mut [Short],
-    /// One word a place. Twice as many as nodes is a good number.
+    /// One word a place. Twice as many as nodes is a good number; it has to be the same in every call of one builder, or
+    /// equal nodes are not found again.
     pub places: &'a mut [Short],
     /// One word a constant.
     pub base_consts: &'a mut [Long],
