@@ -81,6 +81,7 @@ code-follows-rust m s k new zero cs ss n run =
     let f = builder-follows-rust startOf code-starts-inside m (ap (λ (x : Said). x .number) (sym (i .said)) ∙ zero) cs in
     let r = runs-are cs k ss n run in
     let e = r .1 ∙ ap (λ x. after startOf x cs) (i .memory) in (
+      i .said ∙ f .begins,
       r .0 ∙ ap (λ x. answers startOf x cs) (i .memory) ∙ f .says,
       subst (λ x. Stands x (drafted (roomOf m) freshDraft cs)) (sym e) (f .stands),
     )

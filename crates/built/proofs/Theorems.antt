@@ -126,6 +126,7 @@ any-hash-will-do other low′ start low m e cs =
     let s = h .holds in
     let t = g .holds in
     record {
+      begins = begun start start low m e .said ∙ sym (begun start other low′ m e .said);
       says = h .says ∙ sym (g .says);
       builder = counted start _ _ s ∙ sym (counted other _ _ t);
       program = holds-program start _ _ s ∙ sym (holds-program other _ _ t);

@@ -1,4 +1,4 @@
--- Histories of calls from a fresh builder, and what is proved of them. The proofs are in proofs/Theorems.antt.
+-- Histories of calls from a fresh builder, and what is proved of them. The proofs are in proofs/Theorems.antt and RoomLaws.antt.
 -- Assumes nothing.
 use mathlib.Core.Bool.{Bool, true, false, _&&_}
 use mathlib.Core.List.{List, [], _∷_}
@@ -62,6 +62,7 @@ pub record FollowsRust (start : Start) (m : Memory) (cs : List Call) : Type 0 wh
 
 -- 2. Another rule of where a lookup starts changes no answer, no count, and no node, constant or root
 pub record SameAs (other : Start) (start : Start) (m : Memory) (cs : List Call) : Type 0 where
+  pub begins : fresh start m .said ≡ fresh other m .said
   pub says : answers start (fresh start m .memory) cs ≡ answers other (fresh other m .memory) cs
   pub builder : reached start m cs .builder ≡ reached other m cs .builder
   pub program : draftOf (reached start m cs) ≡ draftOf (reached other m cs)

@@ -3,7 +3,7 @@
 -- Assumes nothing.
 use mathlib.Core.List.{List, [], _∷_}
 use mathlib.Core.Path.{_≡_}
-use Rattle.ir.specs.Refusals.{Said}
+use Rattle.ir.specs.Refusals.{Said, gives}
 use Rattle.builder.specs.declared.ir_builder.Answer.{Answer}
 use Rattle.builder.specs.declared.ir_builder.Emitted.{Emitted}
 use Rattle.builder.specs.declared.ir_builder.IrBuilder.{IrBuilder}
@@ -85,4 +85,4 @@ Runs m (c ∷ cs) ss n = (s : Said) × (k : Memory) × (rest : List Said) × Cal
 abbrev pub CodeFollowsRust : Type 0
 CodeFollowsRust =
     (m : Memory) (s : Said) (k : Memory) → NewRun m s k → s .number ≡ 0 → (cs : List Call) (ss : List Said) (n : Memory) → Runs k cs ss n
-    → (ss ≡ replies (roomOf m) freshDraft cs) × Stands n (drafted (roomOf m) freshDraft cs)
+    → (s ≡ gives (0 ∷ 0 ∷ [])) × (ss ≡ replies (roomOf m) freshDraft cs) × Stands n (drafted (roomOf m) freshDraft cs)
