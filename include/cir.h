@@ -1,5 +1,6 @@
-/* The calls of four static libraries, which `./libraries` writes to target/staticlib/: libhost_field.a has the field's,
- * libhost_builder.a the builder's, libhost_stored.a those on stored files alone, libhost.a those on programs and blobs.
+/* The calls of six static libraries, which `./libraries` writes to target/staticlib/: libhost_field.a has the field's,
+ * libhost_builder.a the builder's, libhost_stored.a those on stored files alone, libhost.a those on programs and blobs;
+ * libhost_builder_bytes.a and libhost_bytes.a have the calls on bytes of the builder and of programs and blobs.
  *
  * A field value is a word that stands for its remainder by p = 2^64 - 2^32 + 1. Every word is taken; every word that a
  * call writes or returns as a value is below p. An extension value is three words in a row, over w with w cubed = 2.

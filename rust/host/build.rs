@@ -3,8 +3,16 @@
 use std::env;
 use std::path::{Path, PathBuf};
 
-/// What include/cir.h declares: the field's calls, the builder's, those on stored files, and those on programs and blobs.
-const LIBRARIES: [&str; 4] = ["host_field", "host_builder", "host_stored", "host"];
+/// What include/cir.h declares: the field's calls, the builder's on words and on bytes, those on stored
+/// files, and those on programs and blobs on words and on bytes.
+const LIBRARIES: [&str; 6] = [
+    "host_field",
+    "host_builder",
+    "host_builder_bytes",
+    "host_stored",
+    "host",
+    "host_bytes",
+];
 
 /// Names the folder that holds them, if it is not where the toolchain puts them.
 const VARIABLE: &str = "HOST_LIB_DIR";
@@ -33,7 +41,7 @@ fn main() {
             );
             println!(
                 "cargo::error=run `./libraries` in the project's root first, \
-                 or set {VARIABLE} to the absolute path of the folder that holds the four libraries"
+                 or set {VARIABLE} to the absolute path of the folder that holds the six libraries"
             );
             return;
         }

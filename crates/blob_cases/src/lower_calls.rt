@@ -2,8 +2,8 @@
 // is held: what the call has to leave, lent or not, is as it was.
 use super::lower_line::Case;
 use super::lower_line::Rooms;
-use lower::lower::Lowering;
 use lower::lower::lower;
+use lower_parts::parts::Lowering;
 use sample::answer::refusal_number;
 use sample::line::least;
 use sample::line::part;

@@ -1,7 +1,7 @@
 // Lists the blob that stands in stored form A on standard input, or says why there is none.
 use libc::STDIN_FILENO;
 use libc::STDOUT_FILENO;
-use stored::listing::list_stored;
+use listing::listing::list_stored;
 
 fn main() {
     // A byte more than the longest file that is listed, so that a longer one is seen.

@@ -13,7 +13,7 @@ use Rattle.ir.specs.Words.{Node}
 use Rattle.node_table.specs.Hashing.{startOf}
 use Rattle.node_table.specs.Table.{Table, table}
 use Rattle.node_table.specs.Puts.{Pushes}
-use Rattle.builder.specs.Answers.{shortB, pushed, made, answerOf, withNodes, Gives}
+use Rattle.builder.specs.Answers.{shortB, pushed, made, answerToPut, withNodes, Gives}
 use Rattle.builder.specs.declared.ir_builder.Answer.{Answer}
 use Rattle.builder.specs.declared.ir_builder.IrBuilder.{IrBuilder}
 use Rattle.node_table.specs.declared.table.Put.{Put}
@@ -27,11 +27,11 @@ module _ (nodes places : List ℕ) (b : IrBuilder) (w : Node) where
   abbrev t : Table
   t = table nodes places (b .nodes)
 
-  settled : (p : Put) (ns ps : List ℕ) → Pushes (pushed startOf t w) (b .nodes) p ns ps → Gives (made startOf [] t w) b (answerOf p b (w .dim)) ns ps
+  settled : (p : Put) (ns ps : List ℕ) → Pushes (pushed startOf t w) (b .nodes) p ns ps → Gives (made startOf [] t w) b (answerToPut p b (w .dim)) ns ps
   settled (At id count) ns ps h =
       record { said = rw (sym (h .id)); builder = ap (withNodes b) (h .count); nodes = h .nodes; places = h .places }
   settled Full ns ps h =
       record { said = rw (sym (h .id)); builder = ap (withNodes b) (h .count); nodes = h .nodes; places = h .places }
 
-  pub placed-gives : (p : Put) (r : Answer) (ns ps : List ℕ) → Pushes (pushed startOf t w) (b .nodes) p ns ps → r ≡ answerOf p b (w .dim) → Gives (made startOf [] t w) b r ns ps
+  pub placed-gives : (p : Put) (r : Answer) (ns ps : List ℕ) → Pushes (pushed startOf t w) (b .nodes) p ns ps → r ≡ answerToPut p b (w .dim) → Gives (made startOf [] t w) b r ns ps
   placed-gives p r ns ps h q = rw q (settled p ns ps h)

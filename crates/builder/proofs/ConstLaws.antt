@@ -1,15 +1,14 @@
 -- The scan of constants, and the ways out of a call that makes one.
 -- Assumes nothing.
-use mathlib.Core.Bool.{Bool, true, false, cond, false≢true}
+use mathlib.Core.Bool.{Bool, true, false, cond}
 use mathlib.Core.List.{List}
 use mathlib.Core.Path.{_≡_, refl, sym, ap, _∙_, subst}
-use Prim.Native.Nat.{ℕ, zero, suc, _+_, _-_, _/_, _%_, _<_, _≤_, min}
+use Prim.Native.Nat.{ℕ, _+_, _-_, _/_, _%_, _<_, _≤_, min}
 use native.Mathlib.Nat.{mod-mod}
-use native.Mathlib.Numerals.{add-one}
 use native.Mathlib.Omega.{arith}
 use lib.Dec.{eqb, leb}
 use lib.ListN.{length, getD, set}
-use borrow.Author.Tests.{eq-eqb, ne-eqb, leb-false, lt-ltb, le-ltb}
+use borrow.Author.Tests.{eq-eqb, ne-eqb, lt-ltb, le-ltb}
 use Rattle.field.specs.Base.{p}
 use Rattle.ir.specs.declared.refusal.Refusal.the-variants.{ShortMemory, ConstantsFull, NodesFull}
 use Rattle.ir.specs.Program.{most}
@@ -18,74 +17,15 @@ use Rattle.node_table.specs.Words.{node}
 use Rattle.node_table.specs.Hashing.{startOf}
 use Rattle.node_table.specs.Table.{Table, table}
 use Rattle.node_table.specs.Puts.{Pushes}
-use Rattle.builder.specs.Answers.{shortB, pushed, withNodes, answerOf}
-use Rattle.builder.specs.Consts.{scan, positionOf, Interned, crowdedB, internOf, constOf, withBases, withExts, Interns, keptB, empty, zeroOf, newOf}
-use Rattle.builder.specs.Roots.{cleared}
+use Rattle.builder.specs.Answers.{shortB, pushed, withNodes, answerToPut}
+use Rattle.builder.specs.Consts.{Interned, internOf, constOf, withBases, withExts, Interns, empty, zeroOf, newOf}
+use Rattle.const_table.specs.Positions.{scan, positionOf, crowdedB, keptB}
+use Rattle.builder.specs.Roots.{clearedFrom}
 use Rattle.node_table.specs.declared.table.Put.{Put}
 use Rattle.node_table.specs.declared.table.Put.the-variants.{At, Full}
 use Rattle.builder.specs.declared.ir_builder.Answer.{Answer}
 use Rattle.builder.specs.declared.ir_builder.Answer.the-variants.{Refused}
 use Rattle.builder.specs.declared.ir_builder.IrBuilder.{IrBuilder}
-use Rattle.node_table.proofs.Laws.{cond-case}
-
-module _ (test : ℕ → Bool) where
-  scan-le : (left i : ℕ) → scan test left i ≤ i + left
-  unfolding scan
-  scan-le zero i = omega arith
-  scan-le (suc left) i =
-      cond-case (λ r. r ≤ i + suc left) (test i) i (scan test left (suc i)) (λ q. omega arith) λ q. omega (arith, scan-le left (suc i))
-
-  scan-on : (m i : ℕ) → i < m → test i ≡ false → scan test (m - i) i ≡ scan test (m - (i + 1)) (i + 1)
-  unfolding scan
-  scan-on m i h e = let q : m - i ≡ suc (m - (i + 1)) = omega arith in rw (q, e) (ap (scan test (m - (i + 1))) (sym (add-one i)))
-
-  scan-here : (m i : ℕ) → i < m → test i ≡ true → scan test (m - i) i ≡ i
-  unfolding scan
-  scan-here m i h e = let q : m - i ≡ suc (m - (i + 1)) = omega arith in rw (q, e)
-
-  scan-end : (m i : ℕ) → m ≤ i → scan test (m - i) i ≡ i
-  unfolding scan
-  scan-end m i h = let q : m - i ≡ 0 = omega arith in rw q
-
-pub scan-most : (test : ℕ → Bool) (m : ℕ) → scan test m 0 ≤ m
-scan-most test m = omega (arith, scan-le test m 0)
-
--- the first i of m constants have another value
-pub record Scanning (test : ℕ → Bool) (m i : ℕ) : Type 0 where
-  pub few : i ≤ m
-  pub on : scan test m 0 ≡ scan test (m - i) i
-
-module _ (test : ℕ → Bool) (m : ℕ) where
-  pub scanning-start : Scanning test m 0
-  scanning-start = let q : m ≡ m - 0 = omega arith in record { few = omega arith; on = ap (λ n. scan test n 0) q }
-
-  module _ (i : ℕ) (s : Scanning test m i) where
-    pub scanning-more : (b : Bool) → i < m → b ≡ test i → b ≡ false → Scanning test m (i + 1)
-    scanning-more b h e n = record { few = omega arith; on = s .on ∙ scan-on test m i h (sym e ∙ n) }
-
-    pub scanning-here : (b : Bool) → i < m → b ≡ test i → b ≡ true → i ≡ scan test m 0
-    scanning-here b h e n = sym (s .on ∙ scan-here test m i h (sym e ∙ n))
-
-    pub scanning-end : m ≤ i → i ≡ scan test m 0
-    scanning-end h = sym (s .on ∙ scan-end test m i h)
-
--- ---- a constant of either class
-
--- room for a new constant
-pub record Space (fits m : ℕ) : Type 0 where
-  pub few : m < most
-  pub fit : m < fits
-
-pub new-space : (new : Bool) (fits m : ℕ) (f : Bool) → f ≡ crowdedB new fits m → f ≡ false → new ≡ true → Space fits m
-unfolding crowdedB
-new-space new fits m f e q n =
-    let h = sym e ∙ q in
-    let l = leb-false (min fits most) m (rw n at h) in
-    record { few = omega arith; fit = omega arith }
-
-pub kept-new : (u : Put) (new : Bool) → keptB u new ≡ true → new ≡ true
-kept-new (At id count) new e = e
-kept-new Full new e = absurd (false≢true e)
 
 -- the counts of a builder, where `counts` sets those of nodes and of the constants
 pub record Counting (counts : IrBuilder → ℕ → ℕ → IrBuilder) (c : IrBuilder) (m : ℕ) : Type 0 where
@@ -132,7 +72,7 @@ module _ (counts : IrBuilder → ℕ → ℕ → IrBuilder) (tag dim : ℕ) (nod
 
         module _ (q : f ≡ false) (ns ps : List ℕ) where
           abbrev Told : Put → Type 0
-          Told u = Interns counts o c (answerOf u (counts c (c .nodes) (cond new (m + 1) m)) dim) ns ps (cond (keptB u new) written words)
+          Told u = Interns counts o c (answerToPut u (counts c (c .nodes) (cond new (m + 1) m)) dim) ns ps (cond (keptB u new) written words)
 
           settled : (u : Put) → Pushes (pushed startOf t (node tag i 0 dim)) (c .nodes) u ns ps → Told u
           unfolding internOf
@@ -156,7 +96,7 @@ module _ (counts : IrBuilder → ℕ → ℕ → IrBuilder) (tag dim : ℕ) (nod
               })
 
           pub const-done : (g : ℕ) (u : Put) (w : Node) (z : Bool) (b : IrBuilder) (r : Answer) (words′ : List ℕ) → g ≡ cond (leb l j) (m + 1) m → w ≡ node tag j 0 dim
-              → Pushes (pushed startOf t w) (c .nodes) u ns ps → z ≡ keptB u (leb l j) → b ≡ counts c (c .nodes) g → r ≡ answerOf u b dim
+              → Pushes (pushed startOf t w) (c .nodes) u ns ps → z ≡ keptB u (leb l j) → b ≡ counts c (c .nodes) g → r ≡ answerToPut u b dim
               → words′ ≡ cond z written words → Interns counts o c r ns ps words′
           const-done g u w z b r words′ eg ew h ez eb er e =
               rw (er, eb, e, ez, eg, same-new) (settled u (subst (λ x. Pushes (pushed startOf t x) (c .nodes) u ns ps) (ew ∙ ap (λ x. node tag x 0 dim) ej) h))
@@ -176,12 +116,12 @@ module _ (nodes places bs : List ℕ) where
     unfolding newOf
     new-full q = rw (ne-eqb _ _ h, eq-eqb _ _ (sym er ∙ q)) (record { said = refl; builder = refl; nodes = refl; places = refl; consts = refl })
 
-    pub new-done : (r ≡ 0 → ⊥) → (l : List ℕ) (a : Answer) (ns ps bs′ : List ℕ) → l ≡ cleared places 0 (length places - 0)
+    pub new-done : (r ≡ 0 → ⊥) → (l : List ℕ) (a : Answer) (ns ps bs′ : List ℕ) → l ≡ clearedFrom places 0 (length places - 0)
         → Interns withBases (constOf startOf (table nodes l 0) bs 0 0) empty a ns ps bs′ → Interns withBases oN empty a ns ps bs′
     unfolding newOf
     new-done q l a ns ps bs′ e i =
         let z : length places - 0 ≡ length places = omega arith in
-        let y = e ∙ ap (cleared places 0) z in
+        let y = e ∙ ap (clearedFrom places 0) z in
         let j : Interns withBases (zeroOf startOf nodes places bs) empty a ns ps bs′ = rw y at i in
         rw (ne-eqb _ _ h, ne-eqb _ _ (λ x. q (er ∙ x)))
         (record { said = j .said; builder = j .builder; nodes = j .nodes; places = j .places; consts = j .consts })

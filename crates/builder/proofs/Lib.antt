@@ -1,6 +1,5 @@
 pub mod AnswerLaws
 pub mod RootLaws
-pub mod GapLaws
 pub mod ConstLaws
 pub mod OrderLaws
 pub mod Single

@@ -1,22 +1,18 @@
 -- Each call's promise leaves one answer and one memory.
 -- Assumes nothing.
-use mathlib.Core.Bool.{true, cond}
-use mathlib.Core.List.{List, [], _∷_}
-use mathlib.Core.Path.{_≡_, refl, sym, ap, _∙_}
+use mathlib.Core.Bool.{cond}
+use mathlib.Core.List.{List}
+use mathlib.Core.Path.{_≡_, refl, sym, _∙_}
 use Prim.Native.Nat.{ℕ}
 use lib.Dec.{eqb}
 use lib.ListN.{getD}
-use Rattle.ir.specs.Refusals.{Said, inOrder}
+use Rattle.ir.specs.Refusals.{Said}
 use Rattle.ir.proofs.Single.{refusalOf, known}
 use Rattle.builder.specs.Answers.{saidOfAnswer, builderAfter, Built, Gives}
 use Rattle.builder.specs.declared.ir_builder.Answer.{Answer}
 use Rattle.builder.specs.declared.ir_builder.Answer.the-variants.{Made, Refused}
 use Rattle.builder.specs.Consts.{Interned, Interns}
-use Rattle.builder.specs.Gaps.{saidOfGaps, gapRows, GapsAnswer}
 use Rattle.builder.specs.Roots.{saidOfEmitted, builderEmitted, Rooting, EmitGives}
-use Rattle.builder.specs.declared.gaps.Gaps.{Gaps}
-use Rattle.builder.specs.declared.gaps.Gaps.the-variants.{Listed}
-use Rattle.builder.specs.declared.gaps.Gaps.the-variants as Reports
 use Rattle.builder.specs.declared.ir_builder.Emitted.{Emitted}
 use Rattle.builder.specs.declared.ir_builder.Emitted.the-variants.{Rooted}
 use Rattle.builder.specs.declared.ir_builder.Emitted.the-variants as Emits
@@ -61,20 +57,3 @@ pub interns-single : (counts : IrBuilder → ℕ → ℕ → IrBuilder) (o : Int
     → (r ≡ r′) × (ns ≡ ns′) × (ps ≡ ps′) × (bs ≡ bs′)
 interns-single counts o b r r′ ns ps bs ns′ ps′ bs′ f g =
     (answer-single b r r′ (f .said ∙ sym (g .said)) (f .builder ∙ sym (g .builder)), f .nodes ∙ sym (g .nodes), f .places ∙ sym (g .places), f .consts ∙ sym (g .consts))
-
--- ---- the gap report
-
-abbrev gapsSaying : Said → Gaps
-gapsSaying s = cond (eqb (s .number) 0) (Listed (getD (s .values) 0 0)) (Reports.Refused (refusalOf (s .number) (s .place)))
-
-gaps-back : (r : Gaps) → gapsSaying (saidOfGaps r) ≡ r
-gaps-back (Listed count) = refl
-gaps-back (Reports.Refused r) = rw (known r .0, known r .1)
-
-pub gap-report-single : {roots : List ℕ} {k : ℕ} {old new new′ : List ℕ} {r r′ : Gaps} → GapsAnswer roots k old new r → GapsAnswer roots k old new′ r′ → (r ≡ r′) × (new ≡ new′)
-gap-report-single {roots} {k} {old} {new} {new′} {r} {r′} f g =
-    (sym (gaps-back r) ∙ ap gapsSaying (f .said ∙ sym (g .said)) ∙ gaps-back r′, f .written ∙ sym (g .written))
-
--- 1, then 10
-pub gap-report-in-order : (roots : List ℕ) (k room : ℕ) → inOrder (gapRows roots k room) (1 ∷ 10 ∷ []) ≡ true
-gap-report-in-order roots k room = refl

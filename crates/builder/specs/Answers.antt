@@ -32,13 +32,14 @@ abbrev pub builderAfter : IrBuilder → Answer → IrBuilder
 builderAfter b (Made e a) = a
 builderAfter b (Refused r) = b
 
+-- a builder with another count of nodes
 abbrev pub withNodes : IrBuilder → ℕ → IrBuilder
 withNodes b n = record { nodes = n; bases = b .bases; exts = b .exts; roots = b .roots }
 
 -- a push's answer as a call's
-abbrev pub answerOf : Put → IrBuilder → ℕ → Answer
-answerOf (At id count) b d = Made (record { id = id; dim = d }) (withNodes b count)
-answerOf Full b d = Refused NodesFull
+abbrev pub answerToPut : Put → IrBuilder → ℕ → Answer
+answerToPut (At id count) b d = Made (record { id = id; dim = d }) (withNodes b count)
+answerToPut Full b d = Refused NodesFull
 
 -- ---- the tests
 
@@ -61,6 +62,7 @@ pub record Built : Type 0 where
   pub said : Said
   pub after : Table
 
+-- the push of a node, by a rule of where its lookup starts
 abbrev pub pushed : Start → Table → Node → Pushed
 pushed start t w = push (start (length (t .places)) w) t w
 

@@ -1,60 +1,23 @@
 -- Constants by value, base and extension alike, and the fresh builder, over any lent words.
 -- Assumes nothing.
-use mathlib.Core.Bool.{Bool, false, cond, _&&_, _||_}
+use mathlib.Core.Bool.{Bool, cond, _||_}
 use mathlib.Core.List.{List, [], _∷_, _++_}
 use mathlib.Core.Path.{_≡_}
-use Prim.Native.Nat.{ℕ, zero, suc, _+_, _*_, _/_, _%_, min}
+use Prim.Native.Nat.{ℕ, _+_, _/_, min}
 use lib.Dec.{eqb, leb, ltb}
-use lib.ListN.{length, getD, set}
+use lib.ListN.{length}
 use Rattle.laws.specs.Options.{missing}
-use Rattle.field.specs.Base.{p}
 use Rattle.ir.specs.Program.{most}
 use Rattle.ir.specs.Refusals.{Said, Row, row, first, anyHolds, gives, foundAt}
 use Rattle.ir.specs.Words.{constBase, constExt}
 use Rattle.builder.specs.declared.ir_builder.Answer.{Answer}
 use Rattle.builder.specs.declared.ir_builder.IrBuilder.{IrBuilder}
-use Rattle.node_table.specs.declared.table.Put.{Put}
-use Rattle.node_table.specs.declared.table.Put.the-variants.{At, Full}
 use Rattle.node_table.specs.Words.{node}
 use Rattle.node_table.specs.Hashing.{Start}
 use Rattle.node_table.specs.Table.{Table, table, room}
 use Rattle.builder.specs.Answers.{saidOfAnswer, builderAfter, shortB, pushed}
-use Rattle.builder.specs.Roots.{cleared}
-
--- from i on, the first of `left` numbers that passes the test, else the one after them
-unfoldable pub scan : (ℕ → Bool) → ℕ → ℕ → ℕ
-scan test zero i = i
-scan test (suc left) i = let r = scan test left (suc i) in cond (test i) i r
-
--- whether constant j of one word has the value of v
-abbrev pub sameBase : List ℕ → ℕ → ℕ → Bool
-sameBase bs v j = eqb (getD bs j 0 % p) (v % p)
-
--- whether the word at `at` has the value of limb k of v
-abbrev pub sameLimb : List ℕ → ℕ → List ℕ → ℕ → Bool
-sameLimb xs at v k = eqb (getD xs at 0 % p) (getD v k 0 % p)
-
--- whether constant j of three words has the value of v
-abbrev pub sameExt : List ℕ → List ℕ → ℕ → Bool
-sameExt xs v j = sameLimb xs (3 * j) v 0 && (sameLimb xs (3 * j + 1) v 1 && sameLimb xs (3 * j + 2) v 2)
-
--- the first of m constants with the value of v, else m
-unfoldable pub positionOf : List ℕ → ℕ → ℕ → ℕ
-positionOf bs m v = scan (sameBase bs v) m 0
-
-unfoldable pub extPositionOf : List ℕ → ℕ → List ℕ → ℕ
-extPositionOf xs m v = scan (sameExt xs v) m 0
-
--- the words with constant m written, put below p
-abbrev pub withBase : List ℕ → ℕ → ℕ → List ℕ
-withBase bs m v = set bs m (v % p)
-
-abbrev pub withExt : List ℕ → ℕ → List ℕ → List ℕ
-withExt xs m v = set (set (set xs (3 * m) (getD v 0 0 % p)) (3 * m + 1) (getD v 1 0 % p)) (3 * m + 2) (getD v 2 0 % p)
-
--- 5: a new constant, and its table is full, which holds `fits` constants
-unfoldable pub crowdedB : Bool → ℕ → ℕ → Bool
-crowdedB new fits m = new && leb (min fits most) m
+use Rattle.builder.specs.Roots.{clearedFrom}
+use Rattle.const_table.specs.Positions.{positionOf, extPositionOf, withBase, withExt, crowdedB}
 
 -- what a call that makes a constant says, and the tables after it
 pub record Interned : Type 0 where
@@ -96,6 +59,7 @@ constExtOf start t xs m v = internOf start t constExt 1 (length xs / 3) m (extPo
 abbrev pub withBases : IrBuilder → ℕ → ℕ → IrBuilder
 withBases b n m = record { nodes = n; bases = m; exts = b .exts; roots = b .roots }
 
+-- and of extension constants
 abbrev pub withExts : IrBuilder → ℕ → ℕ → IrBuilder
 withExts b n m = record { nodes = n; bases = b .bases; exts = m; roots = b .roots }
 
@@ -107,15 +71,9 @@ pub record Interns (counts : IrBuilder → ℕ → ℕ → IrBuilder) (o : Inter
   pub places : ps ≡ o .after .places
   pub consts : cs ≡ o .consts
 
--- ---- what is kept of a constant once its node was pushed
-
--- it is written where it is new and its node has a place
-abbrev pub keptB : Put → Bool → Bool
-keptB (At id count) new = new
-keptB Full new = false
-
 -- ---- the fresh builder
 
+-- no nodes, constants and roots
 abbrev pub empty : IrBuilder
 empty = record { nodes = 0; bases = 0; exts = 0; roots = 0 }
 
@@ -123,10 +81,11 @@ empty = record { nodes = 0; bases = 0; exts = 0; roots = 0 }
 abbrev pub newRows : Table → List ℕ → List Row
 newRows t bs = row (eqb (length bs) 0) 5 ∷ row (eqb (room t) 0) 4 ∷ []
 
--- the constant 0 over cleared places: node 0
+-- the constant 0 over clearedFrom places: node 0
 abbrev pub zeroOf : Start → List ℕ → List ℕ → List ℕ → Interned
-zeroOf start nodes places bs = constOf start (table nodes (cleared places 0 (length places)) 0) bs 0 0
+zeroOf start nodes places bs = constOf start (table nodes (clearedFrom places 0 (length places)) 0) bs 0 0
 
+-- what a fresh builder answers and leaves
 unfoldable pub newOf : Start → List ℕ → List ℕ → List ℕ → Interned
 newOf start nodes places bs =
     let t = table nodes places 0 in

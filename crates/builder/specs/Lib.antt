@@ -2,5 +2,4 @@
 pub mod Answers
 pub mod Calls
 pub mod Roots
-pub mod Gaps
 pub mod Consts

@@ -15,12 +15,13 @@ use Rattle.builder.specs.declared.ir_builder.IrBuilder.{IrBuilder}
 use Rattle.builder.specs.Answers.{strangerB}
 
 -- d words from `from` on are 0
-unfoldable pub cleared : List ℕ → ℕ → ℕ → List ℕ
-cleared l from zero = l
-cleared l from (suc d) = set (cleared l from d) (from + d) 0
+unfoldable pub clearedFrom : List ℕ → ℕ → ℕ → List ℕ
+clearedFrom l from zero = l
+clearedFrom l from (suc d) = set (clearedFrom l from d) (from + d) 0
 
 -- ---- emit
 
+-- on 0 nothing but the number
 abbrev pub saidOfEmitted : Emitted → Said
 saidOfEmitted (Rooted b) = gives []
 saidOfEmitted (Refused r) = saidOf r
@@ -30,6 +31,7 @@ abbrev pub builderEmitted : IrBuilder → Emitted → IrBuilder
 builderEmitted b (Rooted a) = a
 builderEmitted b (Refused r) = b
 
+-- a builder with another count of roots
 abbrev pub withRoots : IrBuilder → ℕ → IrBuilder
 withRoots b k = record { nodes = b .nodes; bases = b .bases; exts = b .exts; roots = k }
 
@@ -50,7 +52,7 @@ emitOf nodes n rs k at e =
     let rows = emitRows nodes n rs k at e in
     record {
       said = first rows (gives []);
-      roots = cond (anyHolds rows) rs (set (cleared rs k (at - k)) at (e .id));
+      roots = cond (anyHolds rows) rs (set (clearedFrom rs k (at - k)) at (e .id));
       count = cond (anyHolds rows) k (max k (at + 1));
     }
 

@@ -10,19 +10,20 @@ ghost use Rattle.ir.specs.Program.{joined};
 ghost use Rattle.node_table.specs.Words.{wordsOf, node};
 ghost use Rattle.node_table.specs.Hashing.{startOf};
 ghost use Rattle.node_table.specs.Table.{table};
-ghost use Rattle.builder.specs.Answers.{shortB, strangerB, answerOf, made, Gives};
+ghost use Rattle.builder.specs.Answers.{shortB, strangerB, answerToPut, made, Gives};
 ghost use Rattle.builder.specs.Calls.{uniformOf, cellOf, binaryOf, unaryOf, challengeOf, alphaPowerOf, tableOffsetOf, mainCellOf, auxCellOf, addOf, subOf, mulOf, negOf, embedOf};
-ghost use Rattle.builder.specs.Consts.{constOf, constExtOf, withBases, withExts, keptB, Interns, empty, newOf};
+ghost use Rattle.builder.specs.Consts.{constOf, constExtOf, withBases, withExts, Interns, empty, newOf};
 ghost use Rattle.builder.specs.Roots.{emitOf, EmitGives, finished};
-use super::constants::crowded;
-use super::constants::grown;
-use super::constants::position;
-use super::constants::position_ext;
-use super::constants::write_base;
-use super::constants::write_ext;
 use super::roots::clear;
 use super::roots::greater;
-use field::extensions_goldilocks::Ext;
+use const_table::constants::crowded;
+use const_table::constants::grown;
+use const_table::constants::keeps;
+use const_table::constants::position;
+use const_table::constants::position_ext;
+use const_table::constants::write_base;
+use const_table::constants::write_ext;
+use extension::extensions_goldilocks::Ext;
 use field::goldilocks::Fp;
 use ir::node::DIM_BASE;
 use ir::node::DIM_EXT;
@@ -134,7 +135,7 @@ fn cell_dim(main: bool) -> u32
 
 // A push's answer as a call's.
 fn settle(p: Put, builder: IrBuilder, dim: u32) -> Answer
-    ensures { λ r. ⌜ r ≡ answerOf p builder dim ⌝ }
+    ensures { λ r. ⌜ r ≡ answerToPut p builder dim ⌝ }
 {
     match p {
         Put::At { id, count } => Answer::Made {
@@ -157,16 +158,6 @@ fn place(builder: IrBuilder, nodes: &mut [u32], places: &mut [u32], w: Node) -> 
 {
     let n = builder.nodes;
     settle(push(nodes, n, places, w), builder, w.dim)
-}
-
-// A constant is written once its node was pushed, so that a refusal leaves none behind.
-fn keeps(q: Put, new: bool) -> bool
-    ensures { λ r. ⌜ r ≡ keptB q new ⌝ }
-{
-    match q {
-        Put::At { id, count } => new,
-        Put::Full => false,
-    }
 }
 
 impl Expr {

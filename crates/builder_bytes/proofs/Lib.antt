@@ -1,4 +1,3 @@
 -- Laws of the builder's calls on bytes.
 pub mod PromiseLaws
-pub mod RoomLaws
 pub mod Single

@@ -14,9 +14,9 @@ use Rattle.ir.specs.declared.refusal.Refusal.{Refusal}
 use Rattle.ir.specs.declared.refusal.Refusal.the-variants.{ShortMemory}
 use Rattle.ir.proofs.RefusalLaws.{refusal-number}
 use Rattle.stored.specs.Form.{spread}
-use Rattle.bytewise.specs.Words.{whole}
-use Rattle.builder.specs.declared.gaps.Gaps.{Gaps}
-use Rattle.builder.specs.declared.gaps.Gaps.the-variants as Gaps
+use Rattle.byte_words.specs.Words.{whole}
+use Rattle.gaps.specs.declared.gaps.Gaps.{Gaps}
+use Rattle.gaps.specs.declared.gaps.Gaps.the-variants as Gaps
 use Rattle.builder.specs.declared.ir_builder.Answer.{Answer}
 use Rattle.builder.specs.declared.ir_builder.Answer.the-variants.{Refused}
 use Rattle.builder.specs.declared.ir_builder.Emitted.{Emitted}
@@ -24,12 +24,12 @@ use Rattle.builder.specs.declared.ir_builder.Emitted.the-variants as Emitted
 use Rattle.builder.specs.declared.ir_builder.IrBuilder.{IrBuilder}
 use Rattle.builder.specs.Answers.{saidOfAnswer, Built, Gives}
 use Rattle.builder.specs.Consts.{Interned, Interns}
-use Rattle.builder.specs.Gaps.{saidOfGaps, GapsAnswer}
+use Rattle.gaps.specs.Gaps.{saidOfGaps, GapsAnswer}
 use Rattle.builder.specs.Roots.{saidOfEmitted, Rooting, EmitGives}
 use Rattle.node_table.specs.Table.{Table, table}
-use Rattle.builder_bytes.specs.Rooms.{Lent, lent, tight, held, packedOn}
+use Rattle.byte_words.specs.Rooms.{Lent, lent, tight, held, packedOn}
 use Rattle.builder_bytes.specs.Promises.{heldTable, shortTables, shortThree, shortReport, reportSaid, GivesBytes, InternsBytes, EmitBytes, GapsBytes}
-use Rattle.builder_bytes.proofs.RoomLaws.{roomy, lent-words, packed-after}
+use Rattle.byte_words.proofs.RoomLaws.{roomy, lent-words, packed-after}
 
 -- ---- a refusal is not done
 

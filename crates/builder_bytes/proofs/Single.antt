@@ -6,16 +6,17 @@ use mathlib.Core.Path.{_≡_, refl, sym, _∙_}
 use Prim.Native.Nat.{ℕ}
 use Rattle.laws.proofs.Cases.{by-test}
 use Rattle.ir.specs.Refusals.{refuses}
-use Rattle.builder.specs.declared.gaps.Gaps.{Gaps}
+use Rattle.gaps.specs.declared.gaps.Gaps.{Gaps}
 use Rattle.builder.specs.declared.ir_builder.Answer.{Answer}
 use Rattle.builder.specs.declared.ir_builder.Emitted.{Emitted}
 use Rattle.builder.specs.declared.ir_builder.IrBuilder.{IrBuilder}
 use Rattle.builder.specs.Answers.{Built}
 use Rattle.builder.specs.Consts.{Interned}
-use Rattle.builder.specs.Gaps.{gapsSaid}
+use Rattle.gaps.specs.Gaps.{gapsSaid}
 use Rattle.builder.specs.Roots.{withRoots, Rooting, EmitGives}
-use Rattle.builder.proofs.Single.{answer-single, emit-single, gap-report-single}
-use Rattle.builder_bytes.specs.Rooms.{Lent, held}
+use Rattle.builder.proofs.Single.{answer-single, emit-single}
+use Rattle.gaps.proofs.Single.{gap-report-single}
+use Rattle.byte_words.specs.Rooms.{Lent, held}
 use Rattle.builder_bytes.specs.Promises.{shortOr, shortTables, shortReport, GivesBytes, InternsBytes, EmitBytes, GapsBytes}
 
 pub gives-bytes-single : {o : Built} {b : IrBuilder} {nodes places n₁ n₂ p₁ p₂ : Lent} {r r′ : Answer} → GivesBytes o b nodes places r n₁ p₁ → GivesBytes o b nodes places r′ n₂ p₂ → (r ≡ r′) × (n₁ ≡ n₂) × (p₁ ≡ p₂)

@@ -1,3 +1,2 @@
 -- The builder's calls on bytes.
 pub mod Promises
-pub mod Rooms

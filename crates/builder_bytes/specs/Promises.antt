@@ -7,18 +7,17 @@ use mathlib.Core.Path.{_≡_}
 use Prim.Native.Nat.{ℕ}
 use lib.ListN.{length}
 use lib.Seq.{sets}
-use Rattle.ir.specs.Reads.{onDone}
-use Rattle.ir.specs.Refusals.{Said, row, first}
-use Rattle.builder.specs.declared.gaps.Gaps.{Gaps}
+use Rattle.ir.specs.Refusals.{onDone, Said, row, first}
+use Rattle.gaps.specs.declared.gaps.Gaps.{Gaps}
 use Rattle.builder.specs.declared.ir_builder.Answer.{Answer}
 use Rattle.builder.specs.declared.ir_builder.Emitted.{Emitted}
 use Rattle.builder.specs.declared.ir_builder.IrBuilder.{IrBuilder}
 use Rattle.builder.specs.Answers.{saidOfAnswer, builderAfter, withNodes, Built}
 use Rattle.builder.specs.Consts.{Interned}
-use Rattle.builder.specs.Gaps.{saidOfGaps, gapsOf, gapsSaid}
+use Rattle.gaps.specs.Gaps.{saidOfGaps, gapsOf, gapsSaid}
 use Rattle.builder.specs.Roots.{saidOfEmitted, builderEmitted, withRoots, Rooting}
 use Rattle.node_table.specs.Table.{Table, table}
-use Rattle.builder_bytes.specs.Rooms.{Lent, tight, held, unpackedIn, packedOn}
+use Rattle.byte_words.specs.Rooms.{Lent, tight, held, unpackedIn, packedOn}
 
 -- 1 before what is said of the words
 abbrev pub shortOr : Bool → Said → Said
@@ -28,6 +27,7 @@ shortOr short s = first (row short 1 ∷ []) s
 abbrev pub heldTable : Lent → Lent → ℕ → Table
 heldTable nodes places n = table (held 4 nodes) (held 4 places) n
 
+-- 1: a room of nodes or of places that is too short
 abbrev pub shortTables : Lent → Lent → Bool
 shortTables nodes places = tight 4 nodes || tight 4 places
 
@@ -42,6 +42,7 @@ pub record GivesBytes (o : Built) (b : IrBuilder) (nodes places : Lent) (r : Ans
 abbrev pub shortThree : Lent → Lent → Lent → Bool
 shortThree nodes places consts = shortTables nodes places || tight 8 consts
 
+-- the promise of a call that makes a constant: 1 for a short room, else what the call on words makes
 pub record InternsBytes (counts : IrBuilder → ℕ → ℕ → IrBuilder) (o : Interned) (b : IrBuilder) (nodes places consts : Lent) (r : Answer) (nodes′ places′ consts′ : Lent) : Type 0 where
   pub said : saidOfAnswer r ≡ shortOr (shortThree nodes places consts) (o .said)
   pub builder : builderAfter b r ≡ cond (shortThree nodes places consts) b (counts b (o .after .count) (o .count))
@@ -60,6 +61,7 @@ pub record EmitBytes (o : Rooting) (b : IrBuilder) (nodes roots : Lent) (r : Emi
 abbrev pub shortReport : Lent → Lent → Bool
 shortReport roots out = tight 4 roots || tight 8 out
 
+-- what the gap report says over bytes
 abbrev pub reportSaid : ℕ → Lent → Lent → Said
 reportSaid k roots out = gapsSaid (held 4 roots) k (length (held 8 out))
 
@@ -67,6 +69,7 @@ reportSaid k roots out = gapsSaid (held 4 roots) k (length (held 8 out))
 abbrev pub reported : ℕ → Lent → Lent → List ℕ
 reported k roots out = onDone (reportSaid k roots out) (sets (held 8 out) 0 (gapsOf (held 4 roots) k)) (held 8 out)
 
+-- the promise of the gap report
 pub record GapsBytes (k : ℕ) (roots out : Lent) (r : Gaps) (roots′ out′ : Lent) : Type 0 where
   pub said : saidOfGaps r ≡ shortOr (shortReport roots out) (reportSaid k roots out)
   pub roots-end : roots′ ≡ cond (shortReport roots out) roots (unpackedIn 4 roots)

@@ -1,17 +1,17 @@
 // The calls that make a node: 1 where a room is too short for its bytes, then the call's own numbers. The bytes change on 0
 // alone.
 ghost use Rattle.node_table.specs.Hashing.{startOf};
-ghost use Rattle.builder.specs.Calls.{callOf};
-ghost use Rattle.builder_bytes.specs.Rooms.{lent};
+ghost use Rattle.builder_call.specs.CallData.{callOf};
+ghost use Rattle.byte_words.specs.Rooms.{lent};
 ghost use Rattle.builder_bytes.specs.Promises.{heldTable, GivesBytes};
-use super::rooms::is_made;
-use super::rooms::pack_front32;
-use super::rooms::short_rooms;
-use builder::call::Call;
-use builder::call::perform;
+use super::answers::is_made;
 use builder::ir_builder::Answer;
 use builder::ir_builder::IrBuilder;
-use bytewise::words::unpack32;
+use builder_call::call::Call;
+use builder_call::call::perform;
+use byte_words::rooms::pack_front32;
+use byte_words::rooms::short_rooms;
+use byte_words::words::unpack32;
 use ir::refusal::Refusal;
 
 // The rooms nw and pw take the words of nodes and places.

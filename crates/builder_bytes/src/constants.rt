@@ -2,18 +2,18 @@
 // numbers. The rooms nw, pw and cw take the words of nodes, places and constants. The bytes change on 0 alone.
 ghost use Rattle.node_table.specs.Hashing.{startOf};
 ghost use Rattle.builder.specs.Consts.{constOf, constExtOf, withBases, withExts, empty, newOf};
-ghost use Rattle.builder_bytes.specs.Rooms.{lent, held};
+ghost use Rattle.byte_words.specs.Rooms.{lent, held};
 ghost use Rattle.builder_bytes.specs.Promises.{heldTable, InternsBytes};
-use super::rooms::is_made;
-use super::rooms::pack_front32;
-use super::rooms::pack_front64;
-use super::rooms::short_rooms;
-use super::rooms::short_wide;
+use super::answers::is_made;
 use builder::ir_builder::Answer;
 use builder::ir_builder::IrBuilder;
-use bytewise::words::unpack32;
-use bytewise::words::unpack64;
-use field::extensions_goldilocks::Ext;
+use byte_words::rooms::pack_front32;
+use byte_words::rooms::pack_front64;
+use byte_words::rooms::short_rooms;
+use byte_words::rooms::short_wide;
+use byte_words::words::unpack32;
+use byte_words::words::unpack64;
+use extension::extensions_goldilocks::Ext;
 use ir::refusal::Refusal;
 
 pub fn const_base_bytes(

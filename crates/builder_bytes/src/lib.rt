@@ -1,7 +1,6 @@
 // The builder's calls over bytes: tables as little-endian words, which go into rooms that the caller lends; what is decided
 // is decided by the calls on words.
+pub mod answers;
 pub mod calls;
 pub mod constants;
-pub mod rooms;
 pub mod roots;
-pub mod words;

@@ -1,21 +1,21 @@
 // Roots and the gap report: 1 where a room is too short for its bytes, then the call's own numbers. What is only read stays as
 // bytes; what is written changes on 0 alone.
 ghost use Rattle.builder.specs.Roots.{emitOf};
-ghost use Rattle.builder_bytes.specs.Rooms.{lent, held};
+ghost use Rattle.byte_words.specs.Rooms.{lent, held};
 ghost use Rattle.builder_bytes.specs.Promises.{EmitBytes, GapsBytes};
-use super::rooms::is_listed;
-use super::rooms::is_rooted;
-use super::rooms::pack_front32;
-use super::rooms::pack_front64;
-use super::rooms::short_mixed;
-use super::rooms::short_rooms;
-use builder::gaps::Gaps;
-use builder::gaps::gap_report;
+use super::answers::is_listed;
+use super::answers::is_rooted;
 use builder::ir_builder::Emitted;
 use builder::ir_builder::Expr;
 use builder::ir_builder::IrBuilder;
-use bytewise::words::unpack32;
-use bytewise::words::unpack64;
+use byte_words::rooms::pack_front32;
+use byte_words::rooms::pack_front64;
+use byte_words::rooms::short_mixed;
+use byte_words::rooms::short_rooms;
+use byte_words::words::unpack32;
+use byte_words::words::unpack64;
+use gaps::gaps::Gaps;
+use gaps::gaps::gap_report;
 use ir::refusal::Refusal;
 
 // The rooms nw and tw take the words of nodes and roots.

@@ -3,8 +3,8 @@
 use builder::ir_builder::Answer;
 use builder::ir_builder::Emitted;
 use builder::ir_builder::IrBuilder;
-use lower::lower::Lowering;
 use lower::lower::lower;
+use lower_parts::parts::Lowering;
 use sample::answer::refusal_number;
 use sample::report::say;
 use sample::report::say_number;

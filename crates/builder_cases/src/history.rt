@@ -3,9 +3,9 @@
 use super::perform::Outcome;
 use super::perform::perform;
 use super::perform::refused;
-use builder::gaps::Gaps;
-use builder::gaps::gap_report;
 use builder::ir_builder::IrBuilder;
+use gaps::gaps::Gaps;
+use gaps::gaps::gap_report;
 use sample::line::count_at;
 use sample::line::least;
 use sample::line::number_at;

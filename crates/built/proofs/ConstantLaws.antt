@@ -19,7 +19,8 @@ use Rattle.node_table.specs.Words.{node}
 use Rattle.node_table.specs.Hashing.{Start}
 use Rattle.node_table.specs.Table.{Table, room}
 use Rattle.node_table.specs.Model.{pushList}
-use Rattle.builder.specs.Consts.{scan, crowdedB, Interned, internOf}
+use Rattle.builder.specs.Consts.{Interned, internOf}
+use Rattle.const_table.specs.Positions.{scan, crowdedB}
 use Rattle.built.specs.Draft.{indexOf, Shared, sharing}
 use Rattle.built.proofs.NodeLaws.{Nodes, pushed-id, maybe-nodes, maybe-room, not-short}
 

@@ -19,9 +19,10 @@ use Rattle.node_table.specs.Hashing.{Start}
 use Rattle.node_table.specs.Words.{view, lookup}
 use Rattle.node_table.specs.Table.{Table, table, room}
 use Rattle.node_table.specs.Model.{pushList}
-use Rattle.builder.specs.Roots.{cleared}
+use Rattle.builder.specs.Roots.{clearedFrom}
 use Rattle.node_table.proofs.Pushes.{sound-start}
-use Rattle.builder.specs.Consts.{withBase, positionOf, constOf, newOf}
+use Rattle.builder.specs.Consts.{constOf, newOf}
+use Rattle.const_table.specs.Positions.{withBase, positionOf}
 use Rattle.built.specs.Draft.{Told, freshDraft, indexOf}
 use Rattle.built.specs.Memory.{Memory, fresh, baseAt, baseRoom, roomOf}
 use Rattle.built.specs.History.{StartsInside}
@@ -30,26 +31,26 @@ use Rattle.built.proofs.ConstantLaws.{Held, Shares, const-shares}
 use Rattle.built.proofs.RootLaws.{cleared-length}
 use Rattle.built.proofs.StepLaws.{base-writes, base-index, Step}
 
-cleared-at : (l : List ℕ) (d j : ℕ) → d ≤ length l → j < d → getD (cleared l 0 d) j 0 ≡ 0
-unfolding cleared
+cleared-at : (l : List ℕ) (d j : ℕ) → d ≤ length l → j < d → getD (clearedFrom l 0 d) j 0 ≡ 0
+unfolding clearedFrom
 cleared-at l zero j h k = absurd (omega arith)
 cleared-at l (suc d) j h k =
     let z : 0 + d ≡ d = omega arith in
     rw z
     (by-cases (ℕ-discrete j d)
-    (λ e. rw e (getD-set-same (cleared l 0 d) d 0 0 (omega (arith, cleared-length l 0 d))))
-    λ e. getD-set-other (cleared l 0 d) d j 0 0 e ∙ cleared-at l d j (omega arith) (omega arith))
+    (λ e. rw e (getD-set-same (clearedFrom l 0 d) d 0 0 (omega (arith, cleared-length l 0 d))))
+    λ e. getD-set-other (clearedFrom l 0 d) d j 0 0 e ∙ cleared-at l d j (omega arith) (omega arith))
 
-all-cleared : (l : List ℕ) (j : ℕ) → getD (cleared l 0 (length l)) j 0 ≡ 0
+all-cleared : (l : List ℕ) (j : ℕ) → getD (clearedFrom l 0 (length l)) j 0 ≡ 0
 all-cleared l j =
-    by-cases (decLt j (length l)) (cleared-at l (length l) j (omega arith)) λ h. List·getD-eq-default (cleared l 0 (length l)) 0 (omega (arith, cleared-length l 0 (length l)))
+    by-cases (decLt j (length l)) (cleared-at l (length l) j (omega arith)) λ h. List·getD-eq-default (clearedFrom l 0 (length l)) 0 (omega (arith, cleared-length l 0 (length l)))
 
 abbrev beginning : Told
 beginning = record { said = gives (0 ∷ 0 ∷ []); draft = freshDraft }
 
 module _ (start : Start) (low : StartsInside start) (m : Memory) where
   abbrev places₀ : List ℕ
-  places₀ = cleared (m .places) 0 (length (m .places))
+  places₀ = clearedFrom (m .places) 0 (length (m .places))
 
   abbrev t₀ : Table
   t₀ = table (m .nodes) places₀ 0

@@ -4,8 +4,8 @@ use mathlib.Core.Bool.{false}
 use mathlib.Core.Option.{none}
 use mathlib.Core.Path.{_≡_, refl}
 use Rattle.ir.specs.Program.{Program, tooManyNodes, shortProgram, illFormed}
-use Rattle.interp.specs.Evaluation.{shortFrame, shortMemory}
-use Rattle.lower.specs.Answer.{lowerSaid}
+use Rattle.evaluation.specs.Evaluation.{shortFrame, shortMemory}
+use Rattle.lower_parts.specs.Answer.{lowerSaid}
 use Rattle.lowered.proofs.Theorem.{lowering-is-faithful}
 use Rattle.built.specs.Serves.{Serves, BuiltProgramsServe}
 use Rattle.built.proofs.Theorems.{programs-are-well-formed}

@@ -24,7 +24,7 @@ use Rattle.node_table.specs.Model.{pushList}
 use Rattle.builder.specs.Answers.{made, pushed}
 use Rattle.builder.specs.Calls.{shortRow, indexRow, cellNode, uniformOf, tableOffsetOf, cellOf, binaryOf, unaryOf}
 use Rattle.builder.specs.Roots.{emitOf}
-use Rattle.builder.specs.Consts.{positionOf, extPositionOf, withBase, withExt}
+use Rattle.const_table.specs.Positions.{positionOf, extPositionOf, withBase, withExt}
 use Rattle.built.specs.Draft.{Draft, Room, Told, Call, main, aux, challenge, alphaPower, tableOffset, constBase, constExt, add, sub, mul, neg, embed, emit, withList, stranger, strangerRow, making, binary, limbsOf, sameLimbs, indexOf, told}
 use Rattle.built.specs.Memory.{Memory, tableOf, Answered, withTable, answered, baseAt, extAt, baseRoom, extRoom, draftOf, roomOf, Stands}
 use Rattle.built.proofs.NodeLaws.{Nodes, pushed-id, maybe-nodes, maybe-room, not-short, strangers}

@@ -16,7 +16,7 @@ use Rattle.laws.specs.Folds.{allBelow}
 use Rattle.ir.specs.declared.program.Counts.{Counts}
 use Rattle.ir.specs.Program.{most, nodeOk, tooManyNodes, shortTables, illFormed, checked}
 use Rattle.builder.specs.declared.ir_builder.IrBuilder.{IrBuilder}
-use Rattle.builder.specs.Gaps.{gapsOf}
+use Rattle.gaps.specs.Gaps.{gapsOf}
 use Rattle.node_table.specs.Hashing.{Start, hashOf, startOf}
 use Rattle.built.specs.Draft.{Draft, Room, Call, told, freshDraft}
 use Rattle.built.specs.Memory.{Memory, answered, fresh, baseAt, extAt, baseRoom, extRoom, roomOf}
@@ -33,7 +33,7 @@ pub record Ran (start : Start) (r : Room) (m : Memory) (d : Draft) (cs : List Ca
   pub says : answers start m cs ≡ replies r d cs
   pub holds : Holds start (after start m cs) (drafted r d cs)
 
-ran : (start : Start) (r : Room) (cs : List Call) (m : Memory) (d : Draft) → roomOf m ≡ r → Holds start m d → Ran start r m d cs
+pub ran : (start : Start) (r : Room) (cs : List Call) (m : Memory) (d : Draft) → roomOf m ≡ r → Holds start m d → Ran start r m d cs
 unfolding answers after replies drafted
 ran start r [] m d e h = record { says = refl; holds = h }
 ran start r (c ∷ cs) m d e h =
@@ -145,4 +145,6 @@ programs-are-well-formed start low m e cs =
     }
 
 pub gaps-are-found : GapsAreFound
-gaps-are-found start low m e cs = record { gaps = gaps-at start _ _ (history start start low m e cs .holds) }
+gaps-are-found start low m e cs =
+    let h = history start start low m e cs .holds in
+    record { long = le-ltb _ _ (h .roots .few); gaps = gaps-at start _ _ h }

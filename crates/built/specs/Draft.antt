@@ -56,6 +56,7 @@ pub record Told : Type 0 where
 abbrev pub freshDraft : Draft
 freshDraft = record { nodes = node Op.constBase 0 0 0 ∷ []; bases = 0 ∷ []; exts = []; roots = [] }
 
+-- a program with another list of nodes
 abbrev pub withList : Draft → List Node → Draft
 withList d xs = record { nodes = xs; bases = d .bases; exts = d .exts; roots = d .roots }
 
@@ -65,6 +66,7 @@ withList d xs = record { nodes = xs; bases = d .bases; exts = d .exts; roots = d
 unfoldable pub stranger : List Node → Expr → Bool
 stranger xs e = leb (length xs) (e .id) || not (eqb (getD xs (e .id) (node 0 0 0 0) .dim) (e .dim))
 
+-- 3: a handle of no node of the program
 abbrev pub strangerRow : Draft → Expr → Row
 strangerRow d e = row (stranger (d .nodes) e) 3
 
@@ -111,12 +113,15 @@ sharing nodesFit constsFit tag dim same v xs cs =
 abbrev pub limbsOf : List ℕ → List ℕ
 limbsOf v = (getD v 0 0 % p) ∷ (getD v 1 0 % p) ∷ (getD v 2 0 % p) ∷ []
 
+-- two extension constants of one value
 abbrev pub sameLimbs : List ℕ → List ℕ → Bool
 sameLimbs a b = eqb (getD a 0 0) (getD b 0 0) && (eqb (getD a 1 0) (getD b 1 0) && eqb (getD a 2 0) (getD b 2 0))
 
+-- a base constant, shared by value
 abbrev pub baseShared : Room → Draft → ℕ → Shared ℕ
 baseShared r d v = sharing (r .nodes) (r .bases) Op.constBase 0 (λ x. eqb x (v % p)) (v % p) (d .nodes) (d .bases)
 
+-- an extension constant
 abbrev pub extShared : Room → Draft → List ℕ → Shared (List ℕ)
 extShared r d v = sharing (r .nodes) (r .exts) Op.constExt 1 (λ x. sameLimbs x (limbsOf v)) (limbsOf v) (d .nodes) (d .exts)
 
@@ -126,6 +131,7 @@ extShared r d v = sharing (r .nodes) (r .exts) Op.constExt 1 (λ x. sameLimbs x 
 unfoldable pub rooted : List ℕ → ℕ → ℕ → List ℕ
 rooted rs c id = cond (ltb c (length rs)) (set rs c id) ((rs ++ replicate (c - length rs) 0) ++ (id ∷ []))
 
+-- emit: the root of constraint c
 abbrev pub emission : Room → Draft → ℕ → Expr → Told
 emission r d c e =
     let rows = strangerRow d e ∷ row (leb (r .roots) c) 6 ∷ [] in
@@ -136,6 +142,7 @@ emission r d c e =
 
 -- ---- every call
 
+-- what each call answers, and the program after it
 unfoldable pub told : Room → Draft → Call → Told
 told r d (main offset col h) = making r (indexRow col ∷ []) d (cellNode true offset col)
 told r d (aux offset col h) = making r (indexRow col ∷ []) d (cellNode false offset col)

@@ -14,16 +14,19 @@ use Rattle.node_table.specs.Words.{same, view, lookup}
 use Rattle.built.specs.Draft.{Room, Call, main, aux, challenge, constBase, constExt, add, sub, mul, emit, freshDraft, stranger, indexOf, rooted, told}
 use Rattle.built.specs.History.{replies, drafted}
 
--- a base handle, and an extension handle
+-- a base handle
 abbrev base : ℕ → Expr
 base id = record { id = id; dim = 0 }
 
+-- an extension handle
 abbrev ext : ℕ → Expr
 ext id = record { id = id; dim = 1 }
 
+-- room for any program, and eight constraints
 abbrev roomy : Room
 roomy = record { nodes = most; bases = most; exts = most; roots = 8 }
 
+-- E's calls
 pub calls : List Call
 calls =
     main 0 0 (omega arith)
@@ -56,11 +59,12 @@ pub full : replies (record { nodes = 1; bases = 1; exts = 0; roots = 1 }) freshD
 unfolding replies told pushList lookup same stranger indexOf
 full = refl
 
--- emit(2) alone: roots 0, 0 and the node; a second emit takes the first's place
+-- a second emit of one constraint takes the first's place
 pub fills : drafted roomy freshDraft (challenge 0 ∷ emit 2 (ext 1) ∷ emit 2 (base 0) ∷ emit 1 (ext 1) ∷ []) .roots ≡ 0 ∷ 1 ∷ 0 ∷ []
 unfolding drafted told pushList lookup same stranger rooted
 fills = refl
 
+-- emit(2) alone: roots 0, 0 and the node
 pub gap : drafted roomy freshDraft (challenge 0 ∷ emit 2 (ext 1) ∷ []) .roots ≡ 0 ∷ 0 ∷ 1 ∷ []
 unfolding drafted told pushList lookup same stranger rooted
 gap = refl

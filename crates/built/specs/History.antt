@@ -5,13 +5,12 @@ use mathlib.Core.List.{List, [], _∷_}
 use mathlib.Core.Option.{none}
 use mathlib.Core.Path.{_≡_}
 use Prim.Native.Nat.{ℕ, _<_, _≤_}
-use lib.Dec.{eqb}
-use lib.ListN.{length, getD}
-use Rattle.laws.specs.Folds.{allBelow}
+use lib.Dec.{eqb, ltb}
+use lib.ListN.{length}
 use Rattle.ir.specs.Program.{Program, tooManyNodes, tooManyRoots, shortProgram, illFormed, checked}
 use Rattle.ir.specs.Refusals.{Said, gives}
 use Rattle.ir.specs.Words.{Node}
-use Rattle.builder.specs.Gaps.{gapsOf}
+use Rattle.gaps.specs.Gaps.{gapsOf}
 use Rattle.node_table.specs.Hashing.{Start}
 use Rattle.builder.specs.Roots.{finished}
 use Rattle.built.specs.Draft.{Draft, Room, Call, told, freshDraft}
@@ -19,10 +18,12 @@ use Rattle.built.specs.Memory.{Memory, answered, fresh, draftOf, roomOf,
 
 -- ---- calls over lent memory
 
+-- what calls answer, one after the other
 unfoldable pub answers : Start → Memory → List Call → List Said
 answers start m [] = []
 answers start m (c ∷ cs) = let a = answered start m c in a .said ∷ answers start (a .memory) cs
 
+-- the memory that they leave
 unfoldable pub after : Start → Memory → List Call → Memory
 after start m [] = m
 after start m (c ∷ cs) = after start (answered start m c .memory) cs
@@ -33,10 +34,12 @@ reached start m cs = after start (fresh start m .memory) cs
 
 -- ---- the same calls as the Rust has them
 
+-- the same of lists: what calls answer
 unfoldable pub replies : Room → Draft → List Call → List Said
 replies r d [] = []
 replies r d (c ∷ cs) = let q = told r d c in q .said ∷ replies r (q .draft) cs
 
+-- and the program that they leave
 unfoldable pub drafted : Room → Draft → List Call → Draft
 drafted r d [] = d
 drafted r d (c ∷ cs) = drafted r (told r d c .draft) cs
@@ -71,6 +74,7 @@ pub record SameAs (other : Start) (start : Start) (m : Memory) (cs : List Call) 
 abbrev pub programOf : Memory → ℕ → Program
 programOf m base = record { counts = finished (m .builder) base; nodes = m .nodes; bases = m .bases; exts = m .exts; roots = m .roots }
 
+-- stated of every number of leading base constraints
 pub record WellBuilt (start : Start) (m : Memory) (cs : List Call) : Type 0 where
   pub few : (base : ℕ) → tooManyNodes (programOf (reached start m cs) base .counts) ≡ false
   pub long : (base : ℕ) → shortProgram (programOf (reached start m cs) base) ≡ false
@@ -80,9 +84,12 @@ pub record WellBuilt (start : Start) (m : Memory) (cs : List Call) : Type 0 wher
 
 -- 4. The gap report lists the constraints whose root on the program is node 0
 abbrev pub gapsIn : Draft → List ℕ
-gapsIn d = allBelow (λ c. eqb (getD (d .roots) c 0) 0) (length (d .roots))
+gapsIn d = gapsOf (d .roots) (length (d .roots))
 
+-- the report over the memory, of any calls
 pub record GapsFound (start : Start) (m : Memory) (cs : List Call) : Type 0 where
+  -- the roots are lent in full, so 1 is never told
+  pub long : ltb (length (reached start m cs .roots)) (reached start m cs .builder .roots) ≡ false
   pub gaps : gapsOf (reached start m cs .roots) (reached start m cs .builder .roots) ≡ gapsIn (drafted (roomOf m) freshDraft cs)
 
 -- 5. Where every answer is 0 a wider room changes none, and not the program: so it is the Rust, whose tables grow
@@ -90,12 +97,14 @@ abbrev pub allDone : List Said → Bool
 allDone [] = true
 allDone (s ∷ ss) = eqb (s .number) 0 && allDone ss
 
+-- a room that holds no less
 pub record Wider (r big : Room) : Type 0 where
   pub nodes : r .nodes ≤ big .nodes
   pub bases : r .bases ≤ big .bases
   pub exts : r .exts ≤ big .exts
   pub roots : r .roots ≤ big .roots
 
+-- stated of calls that all answer 0
 abbrev pub RoomDoesNotMatter : Type 0
 RoomDoesNotMatter =
     (r big : Room) → Wider r big → (d : Draft) (cs : List Call) → allDone (replies r d cs) ≡ true
@@ -105,11 +114,14 @@ RoomDoesNotMatter =
 abbrev pub BuilderFollowsRust : Type 0
 BuilderFollowsRust = OfHistories FollowsRust
 
+-- of any calls and two rules
 abbrev pub AnyHashWillDo : Type 0
 AnyHashWillDo = (other : Start) → StartsInside other → OfHistories (SameAs other)
 
+-- of any calls
 abbrev pub ProgramsAreWellFormed : Type 0
 ProgramsAreWellFormed = OfHistories WellBuilt
 
+-- of any calls
 abbrev pub GapsAreFound : Type 0
 GapsAreFound = OfHistories GapsFound

@@ -27,6 +27,7 @@ pub record Memory : Type 0 where
   pub exts : List ℕ
   pub roots : List ℕ
 
+-- the table of nodes that the memory holds
 abbrev pub tableOf : Memory → Table
 tableOf m = table (m .nodes) (m .places) (m .builder .nodes)
 
@@ -37,6 +38,7 @@ pub record Answered : Type 0 where
   pub said : Said
   pub memory : Memory
 
+-- the memory after a call on nodes and places
 abbrev pub withTable : Memory → Built → Answered
 withTable m o =
     record {
@@ -44,6 +46,7 @@ withTable m o =
       memory = record { builder = withNodes (m .builder) (o .after .count); nodes = o .after .nodes; places = o .after .places; bases = m .bases; exts = m .exts; roots = m .roots };
     }
 
+-- what each call answers over the memory, and the memory after it
 unfoldable pub answered : Start → Memory → Call → Answered
 answered start m (main offset col h) = withTable m (mainCellOf start (tableOf m) offset col)
 answered start m (aux offset col h) = withTable m (auxCellOf start (tableOf m) offset col)
@@ -89,6 +92,7 @@ fresh start m =
 abbrev pub baseAt : List ℕ → ℕ → ℕ
 baseAt bs j = getD bs j 0 % p
 
+-- and of extension constant j, limb by limb
 abbrev pub extAt : List ℕ → ℕ → List ℕ
 extAt xs j = (getD xs (3 * j) 0 % p) ∷ (getD xs (3 * j + 1) 0 % p) ∷ (getD xs (3 * j + 2) 0 % p) ∷ []
 
@@ -106,6 +110,7 @@ draftOf m =
 abbrev pub baseRoom : List ℕ → ℕ
 baseRoom bs = min (length bs) most
 
+-- how many extension constants fit
 abbrev pub extRoom : List ℕ → ℕ
 extRoom xs = min (length xs / 3) most
 

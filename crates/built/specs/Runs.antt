@@ -57,6 +57,7 @@ pub record RootRun (o : Rooting) (m : Memory) (s : Said) (n : Memory) : Type 0 w
   pub bases : n .bases ≡ m .bases
   pub exts : n .exts ≡ m .exts
 
+-- one call of the code keeps its contract: what it said, and the memory after it
 unfoldable pub CallRun : Memory → Call → Said → Memory → Type 0
 CallRun m (main offset col h) s n = NodeRun (mainCellOf startOf (tableOf m) offset col) m s n
 CallRun m (aux offset col h) s n = NodeRun (auxCellOf startOf (tableOf m) offset col) m s n
@@ -72,11 +73,13 @@ CallRun m (neg a) s n = NodeRun (negOf startOf (tableOf m) a) m s n
 CallRun m (embed a) s n = NodeRun (embedOf startOf (tableOf m) a) m s n
 CallRun m (emit c e) s n = RootRun (emitOf (m .nodes) (m .builder .nodes) (m .roots) (m .builder .roots) c e) m s n
 
+-- so does a fresh builder
 abbrev pub NewRun : Memory → Said → Memory → Type 0
 NewRun m s n = BaseRun (newOf startOf (m .nodes) (m .places) (m .bases)) empty m s n
 
 -- ---- calls one after another
 
+-- calls of the code, one after the other
 unfoldable pub Runs : Memory → List Call → List Said → Memory → Type 0
 Runs m [] ss n = (ss ≡ []) × (n ≡ m)
 Runs m (c ∷ cs) ss n = (s : Said) × (k : Memory) × (rest : List Said) × CallRun m c s k × Runs k cs rest n × (ss ≡ s ∷ rest)

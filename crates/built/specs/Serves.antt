@@ -14,10 +14,10 @@ use Rattle.ir.specs.Program.{Program, tooManyRoots}
 use Rattle.ir.specs.Refusals.{Row, row, rowAt, first, gives}
 use Rattle.ir.specs.Shape.{overShape}
 use Rattle.values.specs.Frame.{Lent, nodeOutside, frameLimits}
-use Rattle.interp.specs.Evaluation.{shortFrame, shortEvals, extRoot, lengths, proverRows, ProverAnswer}
-use Rattle.lower.specs.declared.lower.Lowering.{Lowering}
-use Rattle.lower.specs.Answer.{Lists, Output, lowering, shortLists, shortOutput, countsOf, lowerSaid, LowerAnswer}
-use Rattle.lower.specs.Lower.{blobOf}
+use Rattle.evaluation.specs.Evaluation.{shortFrame, shortEvals, extRoot, lengths, proverRows, ProverAnswer}
+use Rattle.lower_parts.specs.declared.parts.Lowering.{Lowering}
+use Rattle.lower_parts.specs.Answer.{Lists, Output, lowering, shortLists, shortOutput, countsOf, lowerSaid, LowerAnswer}
+use Rattle.lower_parts.specs.Lower.{blobOf}
 use Rattle.lowered.specs.Faithful.{withConstants, Faithful}
 use Rattle.node_table.specs.Hashing.{Start}
 use Rattle.built.specs.Draft.{Call}
@@ -26,6 +26,7 @@ use Rattle.built.specs.History.{reached, programOf, OfHistories}
 
 -- ---- what is left of the refusals
 
+-- the rows of `lower` that a built program leaves open
 abbrev pub lowerLeft : Program → Lists → Output → List Row
 lowerLeft q b o = row (tooManyRoots (q .counts)) 9 ∷ row (shortLists (q .counts .nodes) b) 1 ∷ row (shortOutput (lowering q) o) 10 ∷ []
 
@@ -40,6 +41,7 @@ evalLeft q s l base ext room =
     ∷ rowAt (extRoot (q .counts) (q .nodes) (q .roots)) 12
     ∷ []
 
+-- what a built program is good for
 pub record Serves (q : Program) : Type 0 where
   pub lowers : (b : Lists) (o : Output) → lowerSaid q b o ≡ first (lowerLeft q b o) (gives (countsOf (blobOf (q .counts) (lowering q) .counts)))
   pub evaluates :
@@ -56,5 +58,6 @@ pub record Serves (q : Program) : Type 0 where
 pub record BuiltServes (start : Start) (m : Memory) (cs : List Call) : Type 0 where
   pub serves : (base : ℕ) → Serves (programOf (reached start m cs) base)
 
+-- stated of any calls from a fresh builder
 abbrev pub BuiltProgramsServe : Type 0
 BuiltProgramsServe = OfHistories BuiltServes

@@ -3,13 +3,11 @@
 use mathlib.Core.Bool.{Bool, true, false, _||_}
 use mathlib.Core.List.{List}
 use mathlib.Core.Path.{_≡_, refl, sym, ap, subst, _∙_}
-use Prim.Native.Nat.{ℕ, _/_, _≤_}
+use Prim.Native.Nat.{ℕ, _/_}
 use native.Mathlib.Omega.{arith}
-use lib.Dec.{eqb, ltb}
+use lib.Dec.{ltb}
 use lib.ListN.{length, take}
-use lib.Seq.{length-take-le}
 use borrow.Author.Tests.{ltb-false}
-use Rattle.laws.proofs.Cases.{by-test}
 use Rattle.laws.proofs.Tests.{or-left, or-right, clash}
 use Rattle.ir.specs.declared.program.Counts.{Counts}
 use Rattle.ir.specs.declared.frame.Shape.{Shape}
@@ -20,31 +18,23 @@ use Rattle.ir.specs.declared.refusal.Outcome.the-variants as Outcome
 use Rattle.ir.specs.Program.{Program}
 use Rattle.device.specs.declared.blob.BlobCounts.{BlobCounts}
 use Rattle.device.specs.Check.{CheckAnswer}
-use Rattle.lower.specs.declared.lower.Lowering.{Lowering}
-use Rattle.lower.specs.declared.lower.Lowering.the-variants as Lowering
-use Rattle.lower.specs.Answer.{Lists, Output, LowerAnswer}
+use Rattle.lower_parts.specs.declared.parts.Lowering.{Lowering}
+use Rattle.lower_parts.specs.declared.parts.Lowering.the-variants as Lowering
+use Rattle.lower_parts.specs.Answer.{Lists, Output, LowerAnswer}
 use Rattle.stored.specs.declared.read.ReadStored.{ReadStored}
 use Rattle.stored.specs.declared.read.ReadStored.the-variants as ReadStored
 use Rattle.stored.specs.declared.write.Stored.{Stored}
 use Rattle.stored.specs.declared.write.Stored.the-variants as Stored
-use Rattle.stored.specs.Form.{Tables, countsIn, tablesIn}
-use Rattle.stored.specs.Answer.{put, readSaid, ReadAnswer, WriteAnswer}
-use Rattle.stored.proofs.FormLaws.{sets-long}
-use Rattle.bytewise.specs.Words.{whole, wordsIn}
+use Rattle.stored.specs.Form.{Tables}
+use Rattle.stored.specs.Answer.{put, ReadAnswer, WriteAnswer}
+use Rattle.byte_words.specs.Words.{whole}
 use Rattle.bytewise.specs.Lowering.{wordsOf, shortFor, Roomy, program, tablesOut, LowerFile, LowerStored}
-use Rattle.bytewise.proofs.WordLaws.{unpacked}
-use Rattle.bytewise.specs.Checking.{blobIn, CheckStored}
+use Rattle.byte_words.proofs.WordLaws.{unpacked}
+use Rattle.bytewise.specs.Checking.{CheckStored}
+use Rattle.byte_words.specs.Reading.{blobIn}
+use Rattle.byte_words.proofs.ReadingLaws.{read-why, read-counts, read-both, as-long}
 
 -- ---- reading: one case or the other
-
-pub read-why : (r : ReadStored) {why why′ : Refusal} → r ≡ ReadStored.Refused why → r ≡ ReadStored.Refused why′ → why ≡ why′
-read-why r p q = cc
-
-pub read-counts : (r : ReadStored) {c c′ : BlobCounts} → r ≡ ReadStored.Read c → r ≡ ReadStored.Read c′ → c ≡ c′
-read-counts r p q = cc
-
-pub read-both : (r : ReadStored) {why : Refusal} {c : BlobCounts} → r ≡ ReadStored.Refused why → r ≡ ReadStored.Read c → ⊥
-read-both r p q = let z : _≡_ {A = ℕ} 0 1 = cc in omega arith
 
 -- ---- the check
 
@@ -124,22 +114,6 @@ fronts t rooms =
       roots = take (whole 4 (t .roots)) (rooms .roots);
     }
 
--- rooms are as long as before
-pub record AsLong (old new : Tables) : Type 0 where
-  pub nodes-as : length (new .nodes) ≡ length (old .nodes)
-  pub bases-as : length (new .bases) ≡ length (old .bases)
-  pub exts-as : length (new .exts) ≡ length (old .exts)
-  pub roots-as : length (new .roots) ≡ length (old .roots)
-
-pub as-long : (t rooms : Tables) {rooms′ : Tables} → rooms′ ≡ put t rooms → AsLong rooms rooms′
-as-long t rooms e =
-    record {
-      nodes-as = sets-long (rooms .nodes) 0 (t .nodes) (ap (λ (r : Tables). r .nodes) e);
-      bases-as = sets-long (rooms .bases) 0 (t .bases) (ap (λ (r : Tables). r .bases) e);
-      exts-as = sets-long (rooms .exts) 0 (t .exts) (ap (λ (r : Tables). r .exts) e);
-      roots-as = sets-long (rooms .roots) 0 (t .roots) (ap (λ (r : Tables). r .roots) e);
-    }
-
 pub still-roomy : (t rooms : Tables) {rooms′ : Tables} → Roomy t rooms → rooms′ ≡ put (wordsOf t) rooms → Roomy t rooms′
 still-roomy t rooms f e =
     let k = as-long (wordsOf t) rooms e in
@@ -149,10 +123,6 @@ still-roomy t rooms f e =
       exts-fit = rw (k .exts-as) (f .exts-fit);
       roots-fit = rw (k .roots-as) (f .roots-fit);
     }
-
--- the fronts' lengths
-pub front-long : (k : ℕ) (l : List ℕ) → k ≤ length l → k ≡ length (take k l)
-front-long k l h = sym (length-take-le k l h)
 
 -- they are the table's words
 pub fronts-are : (t rooms : Tables) {rooms′ : Tables} → Roomy t rooms → rooms′ ≡ put (wordsOf t) rooms → fronts t rooms′ ≡ wordsOf t
@@ -178,16 +148,3 @@ module _ (c : Counts) (t rooms : Tables) {lists : Lists} {out : Output} {file : 
       }
 
 -- ---- rooms that a file was read into
-
-pub read-as-long : {file : List ℕ} {rooms rooms′ : Tables} {r : ReadStored} → ReadAnswer file rooms r rooms′ → AsLong rooms rooms′
-read-as-long {file} {rooms} {rooms′} a =
-    by-test (eqb (readSaid file rooms .number) 0) (AsLong rooms rooms′)
-    (λ t. as-long (tablesIn (countsIn file) file) rooms (a .wrote ∙ rw t))
-    λ t.
-    let e : rooms′ ≡ rooms = a .wrote ∙ rw t in
-    record {
-      nodes-as = ap (λ (x : Tables). length (x .nodes)) e;
-      bases-as = ap (λ (x : Tables). length (x .bases)) e;
-      exts-as = ap (λ (x : Tables). length (x .exts)) e;
-      roots-as = ap (λ (x : Tables). length (x .roots)) e;
-    }

@@ -1,5 +1,3 @@
 -- Lemmas of the calls on bytes.
 pub mod AnswerLaws
 pub mod Single
-pub mod WalkLaws
-pub mod WordLaws

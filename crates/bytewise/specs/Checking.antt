@@ -8,16 +8,12 @@ use Rattle.ir.specs.declared.refusal.Refusal.{Refusal}
 use Rattle.ir.specs.declared.refusal.Outcome.{Outcome}
 use Rattle.ir.specs.declared.refusal.Outcome.the-variants as Outcome
 use Rattle.device.specs.declared.blob.BlobCounts.{BlobCounts}
-use Rattle.device.specs.Blob.{Blob}
 use Rattle.device.specs.Check.{CheckAnswer}
 use Rattle.stored.specs.declared.read.ReadStored.{ReadStored}
 use Rattle.stored.specs.declared.read.ReadStored.the-variants as ReadStored
 use Rattle.stored.specs.Form.{Tables}
 use Rattle.stored.specs.Answer.{ReadAnswer}
-
--- a blob, from its counts and the rooms that it was read into
-abbrev pub blobIn : BlobCounts → Tables → Blob
-blobIn c t = record { counts = c; nodes = t .nodes; roots = t .roots }
+use Rattle.byte_words.specs.Reading.{blobIn}
 
 -- the promise: the file is read as `read_stored` reads it; its refusal is the answer, and the bytes stay; else the answer and
 -- the bytes are the check's of the blob that was read

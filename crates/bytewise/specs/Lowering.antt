@@ -11,14 +11,14 @@ use Rattle.ir.specs.declared.refusal.Refusal.{Refusal}
 use Rattle.ir.specs.declared.refusal.Refusal.the-variants.{ShortMemory}
 use Rattle.ir.specs.Program.{Program}
 use Rattle.device.specs.declared.blob.BlobCounts.{BlobCounts}
-use Rattle.lower.specs.declared.lower.Lowering.{Lowering}
-use Rattle.lower.specs.declared.lower.Lowering.the-variants as Lowering
-use Rattle.lower.specs.Answer.{Lists, Output, LowerAnswer}
+use Rattle.lower_parts.specs.declared.parts.Lowering.{Lowering}
+use Rattle.lower_parts.specs.declared.parts.Lowering.the-variants as Lowering
+use Rattle.lower_parts.specs.Answer.{Lists, Output, LowerAnswer}
 use Rattle.stored.specs.declared.write.Stored.{Stored}
 use Rattle.stored.specs.declared.write.Stored.the-variants as Stored
 use Rattle.stored.specs.Form.{Tables}
 use Rattle.stored.specs.Answer.{put, WriteAnswer}
-use Rattle.bytewise.specs.Words.{whole, wordsIn}
+use Rattle.byte_words.specs.Words.{whole, wordsIn}
 
 -- ---- a program's tables as bytes
 

@@ -2,5 +2,3 @@
 // go into rooms that the caller lends; what is decided is decided by the functions on words.
 pub mod checking;
 pub mod lowering;
-pub mod walking;
-pub mod words;

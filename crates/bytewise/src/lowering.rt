@@ -2,12 +2,12 @@
 ghost use mathlib.Core.Path.{_≡_};
 ghost use Rattle.stored.specs.Answer.{put};
 ghost use Rattle.bytewise.specs.Lowering.{shortRooms, Roomy, wordsOf, LowerFile, LowerStored};
-use super::words::unpack32;
-use super::words::unpack64;
+use byte_words::words::unpack32;
+use byte_words::words::unpack64;
 use ir::program::Counts;
 use ir::refusal::Refusal;
-use lower::lower::Lowering;
 use lower::lower::lower;
+use lower_parts::parts::Lowering;
 use stored::write::Stored;
 use stored::write::write_stored;
 

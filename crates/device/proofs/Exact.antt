@@ -17,7 +17,7 @@ use Rattle.laws.proofs.Cases.{by-test}
 use Rattle.laws.proofs.Folds.{none-some, or-none-left, or-none-right, lowest-none, none-lowest, lowest-same}
 use Rattle.laws.proofs.Options.{missing-only, present, only-some, after-some, missing-on1, stop-only, stop-twice, stop-on1, stop-on2}
 use Rattle.laws.proofs.Tests.{clash, and-left, and-right, or-right}
-use Rattle.field.specs.Tower.{Tower}
+use Rattle.extension.specs.Tower.{Tower}
 use Rattle.ir.specs.declared.frame.Shape.{Shape}
 use Rattle.ir.specs.Words.{mainOf, offsetOf, rowOf}
 use Rattle.values.specs.Values.{Value, base, ext, toExt}

@@ -15,7 +15,7 @@ use Rattle.laws.specs.Options.{at}
 use Rattle.laws.proofs.Cases.{by-test}
 use Rattle.laws.proofs.Folds.{lowest-none}
 use Rattle.laws.proofs.Tests.{clash, or-left, or-right}
-use Rattle.field.specs.Tower.{Tower}
+use Rattle.extension.specs.Tower.{Tower}
 use Rattle.ir.specs.declared.frame.Shape.{Shape}
 use Rattle.ir.specs.Shape.{overShape}
 use Rattle.ir.specs.Refusals.{Said, Row, rowAt, found, first, gives}

@@ -30,6 +30,7 @@ pub record Blob : Type 0 where
 abbrev pub baseSlots : BlobCounts → ℕ
 baseSlots c = c .«base_slots»
 
+-- and extension slots
 abbrev pub extSlots : BlobCounts → ℕ
 extSlots c = c .«ext_slots»
 
@@ -51,11 +52,13 @@ slotOf w = w % 2147483648
 abbrev pub kindOf : ℕ → ℕ
 kindOf w = w / 536870912
 
+-- the payload
 abbrev pub payloadOf : ℕ → ℕ
 payloadOf w = w % 536870912
 
 -- ---- tables that an index can name an entry of
 
+-- the four tables
 pub data Table : Type 0 where
   base-consts : Table
   ext-consts : Table
@@ -78,11 +81,13 @@ extTable alphas = true
 
 -- ---- what a tag says
 
+-- the three operations on two operands
 pub data Binary : Type 0 where
   plus : Binary
   minus : Binary
   times : Binary
 
+-- what a node's words mean
 pub data Form : Type 0 where
   -- a table's entry: a is its index, b is unused
   entry : Table → Form
@@ -105,6 +110,7 @@ tags =
 
 -- ---- what an operand's kind says
 
+-- what an operand's payload names
 pub data Kind : Type 0 where
   -- the payload is a base slot
   base-slot : Kind

@@ -27,7 +27,7 @@ use lib.ListN.{getD}
 use Rattle.laws.specs.Folds.{lowest, orElse}
 use Rattle.laws.specs.Maps.{upd}
 use Rattle.laws.specs.Options.{after, on1, on2, onlyIf, missing, at}
-use Rattle.field.specs.Tower.{Tower}
+use Rattle.extension.specs.Tower.{Tower}
 use Rattle.ir.specs.declared.frame.Shape.{Shape}
 use Rattle.ir.specs.Words.{mainOf, offsetOf, rowOf}
 use Rattle.values.specs.Values.{Value, base, ext, toExt}

@@ -1,4 +1,3 @@
 -- What callers and later requests cite of the field.
 pub mod Laws
-pub mod ExtLaws
 mod Words

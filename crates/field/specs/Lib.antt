@@ -1,5 +1,3 @@
 -- What the contracts of the field cite, the marked sums, and the tower.
 pub mod Base
-pub mod Ext
-pub mod Tower
 pub mod Wide

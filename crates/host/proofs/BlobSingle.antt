@@ -13,7 +13,7 @@ use Rattle.device.proofs.Single.{check-blob-single}
 use Rattle.walk.specs.Walk.{WalkAnswer}
 use Rattle.walk.proofs.Single.{walk-single}
 use Rattle.host_answer.specs.Answer.{answerOf}
-use Rattle.host.specs.ProgramCalls.{Called}
+use Rattle.host_answer.specs.Called.{Called}
 
 pub cir-check-blob-single : {b : Blob} {s : Shape} {marks marks₁ marks₂ : List ℕ} {a a′ : ℕ} → Called (λ o. CheckAnswer b s o marks marks₁) a → Called (λ o. CheckAnswer b s o marks marks₂) a′ → (a ≡ a′) × (marks₁ ≡ marks₂)
 cir-check-blob-single f g =

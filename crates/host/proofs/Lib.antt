@@ -1,6 +1,5 @@
 -- Lemmas of the calls.
 pub mod BlobSingle
-pub mod ByteCallLaws
 pub mod LowerCallLaws
 pub mod PlaceLaws
 pub mod ProgramCallLaws

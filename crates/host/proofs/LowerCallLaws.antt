@@ -10,12 +10,11 @@ use Rattle.ir.specs.Refusals.{saidOf}
 use Rattle.ir.specs.Program.{Program}
 use Rattle.ir.proofs.RefusalLaws.{refusal-number}
 use Rattle.device.specs.declared.blob.BlobCounts.{BlobCounts}
-use Rattle.lower.specs.declared.lower.Lowering.{Lowering}
-use Rattle.lower.specs.declared.lower.Lowering.the-variants.{Lowered, Refused}
-use Rattle.lower.specs.Answer.{Lists, Output, saidOfLowering, lowerSaid, LowerAnswer}
+use Rattle.lower_parts.specs.declared.parts.Lowering.{Lowering}
+use Rattle.lower_parts.specs.declared.parts.Lowering.the-variants.{Lowered, Refused}
+use Rattle.lower_parts.specs.Answer.{Lists, Output, saidOfLowering, lowerSaid, LowerAnswer}
 use Rattle.lower.proofs.Single.{lower-single}
-use Rattle.host_answer.specs.Answer.{answerOf}
-use Rattle.host_answer.specs.Answer.{valueOnDone}
+use Rattle.host_answer.specs.Answer.{answerOf, valueOnDone}
 use Rattle.host.specs.LowerCalls.{CalledLower}
 use Rattle.host.proofs.PlaceLaws.{Parts, parts-of, lower-fits}
 

@@ -16,20 +16,21 @@ use Rattle.laws.proofs.Cases.{by-test}
 use Rattle.ir.specs.declared.program.Counts.{Counts}
 use Rattle.ir.specs.declared.frame.Shape.{Shape}
 use Rattle.ir.specs.Program.{Program, tooManyNodes, tooManyRoots, illFormed, checkRows, checked}
-use Rattle.ir.specs.Reads.{ReadsAnswer, columnsOf, readsRows, readsSaid}
+use Rattle.reads.specs.Reads.{ReadsAnswer, columnsOf, readsRows, readsSaid}
 use Rattle.ir.specs.Refusals.{Said, Row, rowAt, foundAt, first, gives}
 use Rattle.ir.proofs.ProgramLaws.{few, few-roots}
-use Rattle.interp.specs.declared.frame.Lengths.{Lengths}
+use Rattle.evaluation.specs.declared.frame.Lengths.{Lengths}
 use Rattle.values.specs.declared.frame.Limits.{Limits}
-use Rattle.field.specs.Tower.{goldilocks}
+use Rattle.extension.specs.Tower.{goldilocks}
 use Rattle.values.specs.Values.{values}
-use Rattle.interp.specs.Evals.{baseWord}
+use Rattle.evaluation.specs.Evals.{baseWord}
 use Rattle.values.specs.Frame.{Lent, leaves, rowStrides, nodeOutside, frameLimits, rowLimits}
-use Rattle.interp.specs.Evaluation.{memoryRows, formRows, extRoot, proverRest, proverRows, verifierRest, verifierRows, rowShape, askedRow, rowRest, rowRows, lengths, ProverAnswer, VerifierAnswer, RowAnswer}
-use Rattle.lower.specs.Lower.{blobOf}
-use Rattle.lower.specs.Answer.{Lists, Output, lowering, lowerRows, lowerSaid, countsOf}
+use Rattle.evaluation.specs.Evaluation.{memoryRows, formRows, extRoot, proverRest, proverRows, verifierRest, verifierRows, rowShape, askedRow, rowRest, rowRows, lengths, ProverAnswer, VerifierAnswer, RowAnswer}
+use Rattle.lower_parts.specs.Lower.{blobOf}
+use Rattle.lower_parts.specs.Answer.{Lists, Output, lowering, lowerRows, lowerSaid, countsOf}
 use Rattle.host_answer.specs.Answer.{answerOf}
-use Rattle.host.specs.ProgramCalls.{Called, CalledBase, CalledReads}
+use Rattle.host.specs.ProgramCalls.{CalledBase, CalledReads}
+use Rattle.host_answer.specs.Called.{Called}
 
 -- the places that 48 bits hold
 abbrev places : ℕ

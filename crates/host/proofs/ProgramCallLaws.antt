@@ -7,17 +7,17 @@ use Prim.Native.Nat.{ℕ}
 use lib.Dec.{eqb}
 use borrow.Author.Tests.{ne-eqb}
 use Rattle.ir.specs.declared.refusal.Refusal.{Refusal}
-use Rattle.ir.specs.declared.reads.Columns.{Columns}
-use Rattle.ir.specs.declared.reads.Columns.the-variants.{Listed, Refused}
+use Rattle.reads.specs.declared.reads.Columns.{Columns}
+use Rattle.reads.specs.declared.reads.Columns.the-variants.{Listed, Refused}
 use Rattle.ir.specs.Refusals.{saidOf}
 use Rattle.ir.proofs.RefusalLaws.{refusal-number}
-use Rattle.interp.specs.declared.interp.Evaluated.{Evaluated}
-use Rattle.interp.specs.declared.interp.Evaluated.the-variants.{Base, Rejected}
-use Rattle.host_answer.specs.Answer.{answerOf, onDone}
+use Rattle.evaluation.specs.declared.evals.Evaluated.{Evaluated}
+use Rattle.evaluation.specs.declared.evals.Evaluated.the-variants.{Base, Rejected}
+use Rattle.host_answer.specs.Answer.{answerOf, valueOnDone}
 use Rattle.host.specs.ProgramCalls.{CalledBase, CalledReads}
 
 -- a refusal writes no value
-kept : (why : Refusal) (old : ℕ) → old ≡ onDone (saidOf why) old
+kept : (why : Refusal) (old : ℕ) → old ≡ valueOnDone (saidOf why) 0 old
 kept why old = rw (ne-eqb (saidOf why .number) 0 (refusal-number why))
 
 module _ {P : Evaluated → Type 0} {o : Evaluated} {old : ℕ} (p : P o) where

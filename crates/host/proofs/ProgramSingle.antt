@@ -6,17 +6,18 @@ use Prim.Native.Nat.{ℕ}
 use Rattle.ir.specs.declared.program.Counts.{Counts}
 use Rattle.ir.specs.declared.frame.Shape.{Shape}
 use Rattle.ir.specs.declared.refusal.Outcome.{Outcome}
-use Rattle.ir.specs.declared.reads.Columns.{Columns}
+use Rattle.reads.specs.declared.reads.Columns.{Columns}
 use Rattle.ir.specs.Program.{Program}
-use Rattle.ir.specs.Reads.{ReadsAnswer, saidOfColumns}
+use Rattle.reads.specs.Reads.{ReadsAnswer, saidOfColumns}
 use Rattle.ir.specs.Refusals.{saidOfOutcome}
-use Rattle.ir.proofs.Single.{next-row-trace-reads-single}
-use Rattle.interp.specs.declared.interp.Evaluated.{Evaluated}
+use Rattle.reads.proofs.Single.{next-row-trace-reads-single}
+use Rattle.evaluation.specs.declared.evals.Evaluated.{Evaluated}
 use Rattle.values.specs.Frame.{Lent}
-use Rattle.interp.specs.Evaluation.{saidOfEvaluated, ProverAnswer, VerifierAnswer, RowAnswer}
+use Rattle.evaluation.specs.Evaluation.{saidOfEvaluated, ProverAnswer, VerifierAnswer, RowAnswer}
 use Rattle.interp.proofs.Single.{eval-program-single, eval-program-verifier-single, eval-program-base-single}
-use Rattle.host_answer.specs.Answer.{answerOf, onDone}
-use Rattle.host.specs.ProgramCalls.{Called, CalledBase, CalledReads}
+use Rattle.host_answer.specs.Answer.{answerOf, valueOnDone}
+use Rattle.host.specs.ProgramCalls.{CalledBase, CalledReads}
+use Rattle.host_answer.specs.Called.{Called}
 
 module _ (c : Counts) (s : Shape) (nodes roots : List ℕ) (l : Lent) {a a′ : ℕ} {ext ext₁ ext₂ room room₁ room₂ : List ℕ} where
   pub cir-eval-program-single : {base base₁ base₂ : List ℕ} → Called (λ o. ProverAnswer c s nodes roots l o base base₁ ext ext₁ room room₁) a → Called (λ o. ProverAnswer c s nodes roots l o base base₂ ext ext₂ room room₂) a′ → (a ≡ a′) × (base₁ ≡ base₂) × (ext₁ ≡ ext₂) × (room₁ ≡ room₂)
@@ -33,7 +34,7 @@ pub cir-eval-program-base-single : (c : Counts) (width asked : ℕ) (nodes roots
 cir-eval-program-base-single c width asked nodes roots l {value} f g =
     let q = eval-program-base-single c width asked nodes roots l (f .promised) (g .promised) in (
       f .answered ∙ ap (λ (o : Evaluated). answerOf (saidOfEvaluated o)) (q .0) ∙ sym (g .answered),
-      f .written ∙ ap (λ (o : Evaluated). onDone (saidOfEvaluated o) value) (q .0) ∙ sym (g .written),
+      f .written ∙ ap (λ (o : Evaluated). valueOnDone (saidOfEvaluated o) 0 value) (q .0) ∙ sym (g .written),
       q .1,
     )
 
@@ -41,6 +42,6 @@ pub cir-next-row-trace-reads-single : {p : Program} {width : ℕ} {out out₁ ou
 cir-next-row-trace-reads-single {count} f g =
     let q = next-row-trace-reads-single (f .promised) (g .promised) in (
       f .answered ∙ ap (λ (o : Columns). answerOf (saidOfColumns o)) (q .0) ∙ sym (g .answered),
-      f .written ∙ ap (λ (o : Columns). onDone (saidOfColumns o) count) (q .0) ∙ sym (g .written),
+      f .written ∙ ap (λ (o : Columns). valueOnDone (saidOfColumns o) 0 count) (q .0) ∙ sym (g .written),
       q .1,
     )

@@ -2,8 +2,8 @@
 -- Assumes nothing.
 use mathlib.Core.Path.{_≡_}
 use Prim.Native.Nat.{ℕ}
-use Rattle.lower.specs.declared.lower.Lowering.{Lowering}
-use Rattle.lower.specs.Answer.{saidOfLowering}
+use Rattle.lower_parts.specs.declared.parts.Lowering.{Lowering}
+use Rattle.lower_parts.specs.Answer.{saidOfLowering}
 use Rattle.host_answer.specs.Answer.{answerOf, valueOnDone}
 
 -- the call answers as `lower` does, whose promise is P of its outcome; the nodes of the blob are value 0, its base slots

@@ -1,32 +1,17 @@
 // Blobs as calls, on numbers and word slices. An answer is one u64: the number of document 01's table, and 256 times the
 // place that it names.
 ghost use mathlib.Core.List.{[], _∷_};
-ghost use mathlib.Core.Path.{_≡_};
 ghost use Rattle.values.specs.Frame.{lent};
 ghost use Rattle.device.specs.Check.{CheckAnswer};
 ghost use Rattle.walk.specs.Walk.{WalkAnswer};
-ghost use Rattle.host.specs.ProgramCalls.{shape, Called};
-ghost use Rattle.host.specs.BlobCalls.{blobCounts, blob};
-use super::program_calls::shape_of;
-use device::blob::BlobCounts;
+ghost use Rattle.host_answer.specs.Called.{Called};
+ghost use Rattle.host_answer.specs.Numbers.{shape, blobCounts, blob};
 use device::check::check_blob;
 use host_answer::answer::coded_outcome;
 use host_answer::answer::ext_of;
+use host_answer::numbers::blob_counts_of;
+use host_answer::numbers::shape_of;
 use walk::walk::walk;
-
-fn blob_counts_of(n: u32, b: u32, x: u32, r: u32, leading: u32, bs: u32, xs: u32) -> BlobCounts
-    ensures { λ c. ⌜ c ≡ blobCounts n b x r leading bs xs ⌝ }
-{
-    BlobCounts {
-        nodes: n,
-        bases: b,
-        exts: x,
-        roots: r,
-        num_base: leading,
-        base_slots: bs,
-        ext_slots: xs,
-    }
-}
 
 #[no_mangle]
 pub extern "C" fn cir_check_blob(

@@ -1,12 +1,12 @@
 // Lowering as a call, on numbers and word slices. An answer is one u64: the number of document 01's table, and 256 times the
 // place that it names.
-ghost use Rattle.lower.specs.Answer.{LowerAnswer};
-ghost use Rattle.host.specs.ProgramCalls.{counts};
+ghost use Rattle.lower_parts.specs.Answer.{LowerAnswer};
+ghost use Rattle.host_answer.specs.Numbers.{counts};
 ghost use Rattle.host.specs.LowerCalls.{CalledLower};
-use super::program_calls::counts_of;
 use host_answer::answer::coded_refusal;
-use lower::lower::Lowering;
+use host_answer::numbers::counts_of;
 use lower::lower::lower;
+use lower_parts::parts::Lowering;
 
 // The blob's nodes and its slots of each class are written on 0 alone; its other counts are the program's.
 #[no_mangle]

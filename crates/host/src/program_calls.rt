@@ -3,48 +3,25 @@
 ghost use mathlib.Core.List.{[], _∷_};
 ghost use mathlib.Core.Path.{_≡_};
 ghost use Rattle.ir.specs.Program.{checked};
-ghost use Rattle.ir.specs.Reads.{ReadsAnswer};
+ghost use Rattle.reads.specs.Reads.{ReadsAnswer};
 ghost use Rattle.values.specs.Frame.{lent, rowLent};
-ghost use Rattle.interp.specs.Evaluation.{ProverAnswer, VerifierAnswer, RowAnswer};
+ghost use Rattle.evaluation.specs.Evaluation.{ProverAnswer, VerifierAnswer, RowAnswer};
 ghost use Rattle.host_answer.specs.Answer.{answerOf};
-ghost use Rattle.host.specs.ProgramCalls.{counts, shape, Called, CalledBase, CalledReads};
+ghost use Rattle.host.specs.ProgramCalls.{CalledBase, CalledReads};
+ghost use Rattle.host_answer.specs.Called.{Called};
+ghost use Rattle.host_answer.specs.Numbers.{counts, shape};
+use evaluation::evals::Evaluated;
 use host_answer::answer::coded_outcome;
 use host_answer::answer::coded_refusal;
 use host_answer::answer::ext_of;
-use interp::interp::Evaluated;
+use host_answer::numbers::counts_of;
+use host_answer::numbers::shape_of;
 use interp::interp::eval_program;
 use interp::interp::eval_program_base;
 use interp::interp::eval_program_verifier;
-use ir::frame::Shape;
-use ir::program::Counts;
 use ir::program::check_program;
-use ir::reads::Columns;
-use ir::reads::next_row_trace_reads;
-
-// The library's structs, from the numbers that a call is given.
-pub fn counts_of(n: usize, b: usize, x: usize, r: usize, leading: usize) -> Counts
-    ensures { λ c. ⌜ c ≡ counts n b x r leading ⌝ }
-{
-    Counts {
-        nodes: n,
-        bases: b,
-        exts: x,
-        roots: r,
-        num_base: leading,
-    }
-}
-
-pub fn shape_of(steps: usize, width: usize, auxes: usize, rap: usize, powers: usize) -> Shape
-    ensures { λ s. ⌜ s ≡ shape steps width auxes rap powers ⌝ }
-{
-    Shape {
-        steps,
-        main: width,
-        aux: auxes,
-        challenges: rap,
-        alphas: powers,
-    }
-}
+use reads::reads::Columns;
+use reads::reads::next_row_trace_reads;
 
 #[no_mangle]
 pub extern "C" fn cir_check_program(

@@ -10,10 +10,6 @@ use Rattle.ir.specs.Refusals.{Said}
 abbrev pub answerOf : Said → ℕ
 answerOf s = s .number + 256 * (s .place % 281474976710656)
 
--- a value is written on 0 alone
-abbrev pub onDone : Said → ℕ → ℕ
-onDone s old = cond (eqb (s .number) 0) (getD (s .values) 0 0) old
-
 -- value k of the answer is written on 0 alone
 abbrev pub valueOnDone : Said → ℕ → ℕ → ℕ
 valueOnDone s k old = cond (eqb (s .number) 0) (getD (s .values) k 0) old

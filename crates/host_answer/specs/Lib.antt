@@ -1,2 +1,4 @@
 -- The definitions of answers as numbers.
 pub mod Answer
+pub mod Numbers
+pub mod Called

@@ -4,7 +4,7 @@ ghost use mathlib.Core.Path.{_≡_};
 ghost use Prim.Native.Nat.{_+_, _*_, _%_};
 ghost use Rattle.ir.specs.Refusals.{saidOf, saidOfOutcome};
 ghost use Rattle.host_answer.specs.Answer.{answerOf};
-use field::extensions_goldilocks::Ext;
+use extension::extensions_goldilocks::Ext;
 use ir::refusal::Outcome;
 use ir::refusal::Refusal;
 

@@ -2,40 +2,28 @@
 -- Assumes nothing.
 use mathlib.Core.Bool.{cond}
 use mathlib.Core.List.{List}
-use mathlib.Core.Path.{_≡_, refl, sym, ap, _∙_}
+use mathlib.Core.Path.{_≡_, ap, _∙_}
 use Prim.Native.Nat.{ℕ}
 use lib.Dec.{eqb}
 use borrow.Author.Tests.{ne-eqb}
 use Rattle.ir.specs.declared.refusal.Refusal.{Refusal}
 use Rattle.ir.specs.Refusals.{saidOf}
 use Rattle.ir.proofs.RefusalLaws.{refusal-number}
-use Rattle.builder.specs.declared.gaps.Gaps.{Gaps}
-use Rattle.builder.specs.declared.gaps.Gaps.the-variants as Reports
+use Rattle.gaps.specs.declared.gaps.Gaps.{Gaps}
+use Rattle.gaps.specs.declared.gaps.Gaps.the-variants as Reports
 use Rattle.builder.specs.declared.ir_builder.Answer.{Answer}
 use Rattle.builder.specs.declared.ir_builder.Answer.the-variants.{Made, Refused}
 use Rattle.builder.specs.declared.ir_builder.Emitted.{Emitted}
 use Rattle.builder.specs.declared.ir_builder.Emitted.the-variants as Emits
-use Rattle.builder.specs.declared.ir_builder.Expr.{Expr}
 use Rattle.builder.specs.declared.ir_builder.IrBuilder.{IrBuilder}
 use Rattle.node_table.specs.Table.{table}
 use Rattle.builder.specs.Answers.{saidOfAnswer, builderAfter, Built, Gives}
 use Rattle.builder.specs.Consts.{Interned, Interns, withBases, withExts, empty}
-use Rattle.builder.specs.Gaps.{GapsAnswer}
+use Rattle.gaps.specs.Gaps.{GapsAnswer}
 use Rattle.builder.specs.Roots.{Rooting, EmitGives}
 use Rattle.host_answer.specs.Answer.{answerOf}
-use Rattle.host_builder.specs.BuilderCalls.{lentCounts, startedOf, Handed, HandsNode, HandsConst, HandsRoot, HandsGaps}
-
--- ---- the handle
-
-module _ {r : Answer} {id dim : ℕ} where
-  pub hand-made : {e : Expr} {b : IrBuilder} → r ≡ Made e b → Handed (saidOfAnswer r) 0 id (e .id) dim (e .dim)
-  hand-made q = rw q (record { answered = refl; id-written = refl; dim-written = refl })
-
-  -- a refusal writes no handle
-  pub hand-refused : {why : Refusal} {a : ℕ} → r ≡ Refused why → a ≡ answerOf (saidOf why) → Handed (saidOfAnswer r) a id id dim dim
-  hand-refused {why} q e =
-      let n = ne-eqb (saidOf why .number) 0 (refusal-number why) in
-      rw q (record { answered = e; id-written = rw n; dim-written = rw n })
+use Rattle.host_builder.specs.BuilderCalls.{startedOf, HandsNode, HandsConst, HandsRoot, HandsGaps}
+use Rattle.host_handle.specs.Handles.{lentCounts, Handed}
 
 -- ---- a node, with its counts
 

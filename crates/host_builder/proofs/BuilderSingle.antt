@@ -8,7 +8,8 @@ use Rattle.node_table.specs.Table.{Table}
 use Rattle.builder.specs.Answers.{Built}
 use Rattle.builder.specs.Consts.{Interned}
 use Rattle.builder.specs.Roots.{Rooting}
-use Rattle.host_builder.specs.BuilderCalls.{Handed, HandsNode, HandsConst, HandsRoot, HandsGaps}
+use Rattle.host_builder.specs.BuilderCalls.{HandsNode, HandsConst, HandsRoot, HandsGaps}
+use Rattle.host_handle.specs.Handles.{Handed}
 
 module _ {id id₁ id₂ dim dim₁ dim₂ a a′ : ℕ} where
   handed-single : {s : Said} → Handed s a id id₁ dim dim₁ → Handed s a′ id id₂ dim dim₂ → (a ≡ a′) × (id₁ ≡ id₂) × (dim₁ ≡ dim₂)

@@ -1,4 +1,3 @@
 -- The proofs of the builder's calls.
-pub mod BuilderByteLaws
 pub mod BuilderCallLaws
 pub mod BuilderSingle

@@ -7,35 +7,18 @@ use Prim.Native.Nat.{ℕ}
 use lib.Dec.{eqb}
 use lib.ListN.{length}
 use lib.Seq.{sets}
-use Rattle.ir.specs.Reads as Reads
-use Rattle.ir.specs.Refusals.{Said}
-use Rattle.builder.specs.declared.ir_builder.Expr.{Expr}
-use Rattle.builder.specs.declared.ir_builder.IrBuilder.{IrBuilder}
+use Rattle.ir.specs.Refusals.{onDone}
 use Rattle.node_table.specs.Table.{Table, table}
 use Rattle.builder.specs.Answers.{Built}
 use Rattle.builder.specs.Consts.{Interned}
-use Rattle.builder.specs.Gaps.{gapsOf, gapsSaid}
+use Rattle.gaps.specs.Gaps.{gapsOf, gapsSaid}
 use Rattle.builder.specs.Roots.{Rooting}
-use Rattle.host_answer.specs.Answer.{answerOf, onDone}
-use Rattle.host_answer.specs.Answer.{valueOnDone}
+use Rattle.host_answer.specs.Answer.{answerOf, valueOnDone}
+use Rattle.host_handle.specs.Handles.{Handed}
 
 -- ---- what the calls are given
 
--- a handle, from its two numbers
-abbrev pub handle : (id dim : ℕ) → Expr
-handle id dim = record { id = id; dim = dim }
-
--- a builder, from its counts
-abbrev pub lentCounts : (n b x r : ℕ) → IrBuilder
-lentCounts n b x r = record { nodes = n; bases = b; exts = x; roots = r }
-
 -- ---- calls that make a node
-
--- the answer of what is said; the handle's id is value 0, its dim value 1
-pub record Handed (s : Said) (answer id id′ dim dim′ : ℕ) : Type 0 where
-  pub answered : answer ≡ answerOf s
-  pub id-written : id′ ≡ valueOnDone s 0 id
-  pub dim-written : dim′ ≡ valueOnDone s 1 dim
 
 -- and nodes, places and their count at exit are the outcome's
 pub record HandsNode (o : Built) (exit : Table) (answer id id′ dim dim′ : ℕ) : Type 0 where
@@ -71,5 +54,5 @@ pub record HandsRoot (o : Rooting) (roots : List ℕ) (count answer : ℕ) : Typ
 -- the gap report of k roots: the answer, the room, and how many gaps there are, which is written on 0 alone
 pub record HandsGaps (roots : List ℕ) (k : ℕ) (old new : List ℕ) (answer count count′ : ℕ) : Type 0 where
   pub answered : answer ≡ answerOf (gapsSaid roots k (length old))
-  pub written : new ≡ Reads.onDone (gapsSaid roots k (length old)) (sets old 0 (gapsOf roots k)) old
-  pub counted : count′ ≡ onDone (gapsSaid roots k (length old)) count
+  pub written : new ≡ onDone (gapsSaid roots k (length old)) (sets old 0 (gapsOf roots k)) old
+  pub counted : count′ ≡ valueOnDone (gapsSaid roots k (length old)) 0 count

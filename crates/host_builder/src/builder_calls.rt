@@ -2,61 +2,27 @@
 // answer is one u64: the number of document 01's table; no call here names a place. The counts at the end and a handle's
 // dim are the host's already, so that `finish`, `len` and `dim` have no call.
 ghost use mathlib.Core.List.{[], _∷_};
-ghost use mathlib.Core.Path.{_≡_};
 ghost use Rattle.field.specs.Base.{signed};
 ghost use Rattle.node_table.specs.Hashing.{startOf};
 ghost use Rattle.node_table.specs.Table.{table};
-ghost use Rattle.builder.specs.Answers.{saidOfAnswer, builderAfter};
-ghost use Rattle.builder.specs.Calls.{callOf, challengeOf, alphaPowerOf, tableOffsetOf, mainCellOf, auxCellOf, addOf, subOf, mulOf, negOf, embedOf};
+ghost use Rattle.builder.specs.Calls.{challengeOf, alphaPowerOf, tableOffsetOf, mainCellOf, auxCellOf, addOf, subOf, mulOf, negOf, embedOf};
+ghost use Rattle.builder_call.specs.CallData.{callOf};
 ghost use Rattle.builder.specs.Consts.{constOf, constExtOf, newOf};
 ghost use Rattle.builder.specs.Roots.{emitOf};
-ghost use Rattle.host_builder.specs.BuilderCalls.{handle, lentCounts, startedOf, Handed, HandsNode, HandsConst, HandsRoot, HandsGaps};
-use builder::call::Call;
-use builder::call::perform;
-use builder::gaps::Gaps;
-use builder::gaps::gap_report;
-use builder::ir_builder::Answer;
+ghost use Rattle.host_builder.specs.BuilderCalls.{startedOf, HandsNode, HandsConst, HandsRoot, HandsGaps};
+ghost use Rattle.host_handle.specs.Handles.{handle};
 use builder::ir_builder::Emitted;
 use builder::ir_builder::Expr;
 use builder::ir_builder::IrBuilder;
+use builder_call::call::Call;
+use builder_call::call::perform;
+use gaps::gaps::Gaps;
+use gaps::gaps::gap_report;
 use host_answer::answer::coded_refusal;
 use host_answer::answer::ext_of;
-
-// Counts that a call is not lent are 0: it does not look at them.
-pub fn builder_of(n: usize, b: usize, x: usize, r: usize) -> IrBuilder
-    ensures { λ c. ⌜ c ≡ lentCounts n b x r ⌝ }
-{
-    IrBuilder {
-        nodes: n,
-        bases: b,
-        exts: x,
-        roots: r,
-    }
-}
-
-// The counts after a call: as before where it refuses.
-pub fn after(was: IrBuilder, made: Answer) -> IrBuilder
-    ensures { λ r. ⌜ r ≡ builderAfter was made ⌝ }
-{
-    match made {
-        Answer::Made { expr, builder } => builder,
-        Answer::Refused(why) => was,
-    }
-}
-
-// The handle is written on 0 alone.
-pub fn hand(made: Answer, id: &mut u32, dim: &mut u32) -> u64
-    ensures { λ a. ⌜ Handed (saidOfAnswer made) a (now (id .entry)) (now (id .exit)) (now (dim .entry)) (now (dim .exit)) ⌝ }
-{
-    match made {
-        Answer::Made { expr, builder } => {
-            *id = expr.id;
-            *dim = expr.dim;
-            0
-        }
-        Answer::Refused(why) => coded_refusal(why),
-    }
-}
+use host_handle::handles::after;
+use host_handle::handles::builder_of;
+use host_handle::handles::hand;
 
 // Every caller names `call` outright, so that the compiler leaves no test of it.
 fn node_call(

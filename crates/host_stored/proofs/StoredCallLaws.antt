@@ -17,9 +17,9 @@ use Rattle.stored.specs.declared.read.ReadStored.{ReadStored}
 use Rattle.stored.specs.declared.read.ReadStored.the-variants as ReadStored
 use Rattle.stored.specs.Form.{Tables, countsIn}
 use Rattle.stored.specs.Answer.{saidOfStored, WriteAnswer, saidOfRead, ReadAnswer}
-use Rattle.stored.specs.Listing.{blobList, Puts}
+use Rattle.listing.specs.Listing.{blobList, Puts}
 use Rattle.stored.proofs.AnswerLaws.{read-ok}
-use Rattle.host_answer.specs.Answer.{answerOf, onDone}
+use Rattle.host_answer.specs.Answer.{answerOf, valueOnDone}
 use Rattle.host_stored.specs.StoredCalls.{WritesFile, ReadsFile, listSaid, ListsFile}
 
 -- ---- writing

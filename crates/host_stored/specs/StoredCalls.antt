@@ -11,13 +11,8 @@ use Rattle.ir.specs.Refusals.{Said, row, first, gives}
 use Rattle.device.specs.declared.blob.BlobCounts.{BlobCounts}
 use Rattle.stored.specs.Form.{Tables, stored, countsIn, tablesIn}
 use Rattle.stored.specs.Answer.{writeSaid, readSaid, put}
-use Rattle.stored.specs.Listing.{blobList}
-use Rattle.host_answer.specs.Answer.{answerOf, onDone}
-
--- the counts, from a call's numbers
-abbrev pub blobCounts : (n b x r leading bs xs : ℕ) → BlobCounts
-blobCounts n b x r leading bs xs =
-    record { nodes = n; bases = b; exts = x; roots = r; «num_base» = leading; «base_slots» = bs; «ext_slots» = xs }
+use Rattle.listing.specs.Listing.{blobList}
+use Rattle.host_answer.specs.Answer.{answerOf, valueOnDone}
 
 -- the lent tables
 abbrev pub tables : (nodes bases exts roots : List ℕ) → Tables
@@ -31,7 +26,7 @@ isDone s = eqb (s .number) 0
 pub record WritesFile (c : BlobCounts) (t : Tables) (file : List ℕ) (old answer : ℕ) (file′ : List ℕ) (new : ℕ) : Type 0 where
   pub answered : answer ≡ answerOf (writeSaid c t file)
   pub wrote : file′ ≡ cond (isDone (writeSaid c t file)) (sets file 0 (stored c t)) file
-  pub measured : new ≡ onDone (writeSaid c t file) old
+  pub measured : new ≡ valueOnDone (writeSaid c t file) 0 old
 
 -- on 0 the file's tables stand at the front of the rooms, and its counts are written
 pub record ReadsFile (file : List ℕ) (rooms : Tables) (old : BlobCounts) (answer : ℕ) (rooms′ : Tables) (new : BlobCounts) : Type 0 where
@@ -43,7 +38,8 @@ pub record ReadsFile (file : List ℕ) (rooms : Tables) (old : BlobCounts) (answ
 unfoldable pub listSaid : List ℕ → List ℕ → Said
 listSaid file out = first (row (ltb (length out) 524288) 10 ∷ []) (gives (length (blobList file) ∷ []))
 
+-- on 0 the listing stands at the front of the room, and its length is written
 pub record ListsFile (file out : List ℕ) (old answer : ℕ) (out′ : List ℕ) (new : ℕ) : Type 0 where
   pub answered : answer ≡ answerOf (listSaid file out)
   pub wrote : out′ ≡ cond (isDone (listSaid file out)) (sets out 0 (blobList file)) out
-  pub measured : new ≡ onDone (listSaid file out) old
+  pub measured : new ≡ valueOnDone (listSaid file out) 0 old

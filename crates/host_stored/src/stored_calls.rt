@@ -1,9 +1,10 @@
 // Form A as calls: a blob written, a file read, and its listing. An answer is one u64: the number of document 01's table.
-ghost use Rattle.host_stored.specs.StoredCalls.{blobCounts, tables, WritesFile, ReadsFile, ListsFile};
+ghost use Rattle.host_answer.specs.Numbers.{blobCounts};
+ghost use Rattle.host_stored.specs.StoredCalls.{tables, WritesFile, ReadsFile, ListsFile};
 use device::blob::BlobCounts;
 use host_answer::answer::coded_refusal;
 use ir::refusal::Refusal;
-use stored::listing::list_stored;
+use listing::listing::list_stored;
 use stored::read::ReadStored;
 use stored::read::read_stored;
 use stored::write::Stored;

@@ -20,19 +20,19 @@ use Rattle.ir.specs.Program.{numBase, nodeOk, illFormed}
 use Rattle.ir.specs.Refusals.{Row, row, rowAt, found, anyHolds}
 use Rattle.ir.proofs.ProgramLaws.{within}
 use Rattle.values.specs.declared.frame.Limits.{Limits}
-use Rattle.interp.specs.declared.frame.Lengths.{Lengths}
+use Rattle.evaluation.specs.declared.frame.Lengths.{Lengths}
 use Rattle.values.specs.Values.{Value, values}
 use Rattle.values.specs.Frame.{Lent, leaves, nodeOutside, proverStrides, frameLimits}
 use Rattle.values.specs.Room.{RoomHolds}
-use Rattle.interp.specs.Evaluation.{memoryRows, formRows, shortEvals, extRoot, proverRest, proverRows, lengths, ProverAnswer}
-use Rattle.interp.specs.Writes.{RootsIn, WritesRoots}
-use Rattle.trial.specs.Trial.{Narrow, Tryable, NodeFits, Trial}
-use Rattle.interp.specs.Attempt.{Sufficient, Attempt}
-use Rattle.field.specs.Tower.{goldilocks}
+use Rattle.evaluation.specs.Evaluation.{memoryRows, formRows, shortEvals, extRoot, proverRest, proverRows, lengths, ProverAnswer}
+use Rattle.evaluation.specs.Writes.{RootsIn, WritesRoots}
+use Rattle.trial_parts.specs.Trial.{Narrow, Tryable, NodeFits, Trial}
+use Rattle.evaluation.specs.Attempt.{Sufficient, Attempt}
+use Rattle.extension.specs.Tower.{goldilocks}
 use Rattle.interp.proofs.AnswerLaws.{answer-quiet, any-append, prover-ok, Asked, prover-asked}
-use Rattle.interp.proofs.EvalLaws.{completes}
+use Rattle.evaluation.proofs.EvalLaws.{completes}
 use Rattle.values.proofs.ReadyLaws.{prover-fits}
-use Rattle.interp.proofs.RefuseLaws.{memory-ok}
+use Rattle.evaluation.proofs.RefuseLaws.{memory-ok}
 
 -- every node passed, and every root was found below the count: 7 and 13 do not hold
 module _ (c : Counts) (m : Limits) (nodes roots : List ℕ) (h : (j : ℕ) → j < c .nodes → NodeFits c m nodes j (nodeAt nodes j)) where

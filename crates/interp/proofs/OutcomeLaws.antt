@@ -12,9 +12,9 @@ use Rattle.ir.specs.declared.refusal.Outcome.the-variants.{Done, Refused}
 use Rattle.ir.specs.Refusals.{Said, Row, gives, saidOf, saidOfOutcome, first, anyHolds}
 use Rattle.ir.proofs.RefusalLaws.{refused-rows, done-rows, first-quiet}
 use Rattle.values.specs.declared.frame.Limits.{Limits}
-use Rattle.interp.specs.declared.frame.Lengths.{Lengths}
-use Rattle.interp.specs.Evaluation.{memoryRows, formRows, TablesOk, RootsBelow}
-use Rattle.interp.proofs.RefuseLaws.{MemoryOk, memory-ok, FormOk, form-ok}
+use Rattle.evaluation.specs.declared.frame.Lengths.{Lengths}
+use Rattle.evaluation.specs.Evaluation.{memoryRows, formRows, TablesOk, RootsBelow}
+use Rattle.evaluation.proofs.RefuseLaws.{MemoryOk, memory-ok, FormOk, form-ok}
 
 -- the first rows: 8, 9, 2, 1
 module _ (c : Counts) (s : Shape) (limbs : ℕ) (l : Lengths) (rest : List Row) {o : Outcome} (h : saidOfOutcome o ≡ first (memoryRows c s limbs l) (gives [])) where

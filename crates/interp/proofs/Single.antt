@@ -14,19 +14,19 @@ use Rattle.laws.proofs.Blocks.{same-blocks}
 use Rattle.laws.proofs.Cases.{by-test}
 use Rattle.laws.proofs.Tests.{clash}
 use Rattle.field.specs.Base.{p, _≈_}
-use Rattle.field.specs.Ext.{limb}
-use Rattle.field.specs.Tower.{goldilocks}
+use Rattle.extension.specs.Ext.{limb}
+use Rattle.extension.specs.Tower.{goldilocks}
 use Rattle.ir.specs.declared.program.Counts.{Counts}
 use Rattle.ir.specs.declared.frame.Shape.{Shape}
 use Rattle.ir.specs.declared.refusal.Outcome.{Outcome}
 use Rattle.ir.specs.Refusals.{Said, Row, anyHolds}
 use Rattle.ir.proofs.Single.{refusalOf, known, outcome-single}
-use Rattle.interp.specs.declared.interp.Evaluated.{Evaluated}
-use Rattle.interp.specs.declared.interp.Evaluated.the-variants.{Base, Rejected}
+use Rattle.evaluation.specs.declared.evals.Evaluated.{Evaluated}
+use Rattle.evaluation.specs.declared.evals.Evaluated.the-variants.{Base, Rejected}
 use Rattle.values.specs.Values.{Value, toExt}
 use Rattle.values.specs.Frame.{Lent}
 use Rattle.values.specs.Room.{Kept, RoomHolds}
-use Rattle.interp.specs.Evaluation.{saidOfEvaluated, Evaluates, VerifierEvaluates, RowEvaluates, ProverAnswer, VerifierAnswer, RowAnswer}
+use Rattle.evaluation.specs.Evaluation.{saidOfEvaluated, Evaluates, VerifierEvaluates, RowEvaluates, ProverAnswer, VerifierAnswer, RowAnswer}
 
 -- words below p that stand for one element are one word
 pub one-word : {x y v : ℕ} → x ≈ v → y ≈ v → x < p → y < p → x ≡ y

@@ -4,8 +4,8 @@ use mathlib.Core.List.{List, [], _∷_, map}
 use mathlib.Core.Path.{_≡_, refl}
 use Prim.Native.Nat.{ℕ}
 use lib.ListN.{length, replicate}
-use Rattle.field.specs.Ext.{sums, minuses, embedded, product}
-use Rattle.field.specs.Tower.{goldilocks, remainders}
+use Rattle.extension.specs.Ext.{sums, minuses, embedded, product}
+use Rattle.extension.specs.Tower.{goldilocks, remainders}
 use Rattle.laws.specs.Folds.{lowest}
 use Rattle.laws.specs.Maps.{upd}
 use Rattle.ir.specs.declared.program.Counts.{Counts}
@@ -15,8 +15,8 @@ use Rattle.ir.specs.Refusals.{Row, first, gives}
 use Rattle.ir.specs.Shape.{overShape}
 use Rattle.values.specs.Values.{Value, leafValue, operationValue, nodeValue, values}
 use Rattle.values.specs.Frame.{Lent, lent, leaves, cellOutside, outside, proverStrides, frameLimits}
-use Rattle.interp.specs.Evals.{baseEvals, extEvals}
-use Rattle.interp.specs.Evaluation.{shortFrame, shortMemory, shortEvals, extRoot, proverRows, lengths}
+use Rattle.evaluation.specs.Evals.{baseEvals, extEvals}
+use Rattle.evaluation.specs.Evaluation.{shortFrame, shortMemory, shortEvals, extRoot, proverRows, lengths}
 
 -- the nodes that the builder makes of E: node 0 is the constant 0
 unfoldable pub nodes : List ℕ
@@ -56,9 +56,11 @@ shape = record { steps = 2; main = 1; aux = 3; challenges = 1; alphas = 0 }
 unfoldable pub base : List ℕ
 base = 7 ∷ []
 
+-- extension evals as lent
 unfoldable pub ext : List ℕ
 ext = 11 ∷ 12 ∷ 13 ∷ 14 ∷ 15 ∷ 16 ∷ []
 
+-- the room as lent
 unfoldable pub room : List ℕ
 room = replicate 40 0
 
@@ -84,5 +86,6 @@ evaluation-done = refl
 
 -- ---- the values
 
+-- each node's value
 unfoldable pub env : ℕ → Value ℕ (List ℕ)
 env = values goldilocks (leaves (proverStrides shape) frame) nodes (counts .nodes)

@@ -5,24 +5,25 @@ ghost use mathlib.Core.List.{[]};
 ghost use mathlib.Core.Path.{_≡_};
 ghost use Prim.Native.Nat.{ℕ, _<_, _≤_};
 ghost use lib.ListN.{length, getD};
-ghost use Rattle.field.specs.Tower.{goldilocks};
+ghost use Rattle.extension.specs.Tower.{goldilocks};
 ghost use Rattle.ir.specs.Refusals.{saidOfOutcome, first, gives};
 ghost use Rattle.values.specs.Values.{values};
 ghost use Rattle.values.specs.Frame.{lent, rowLent, leaves, proverStrides, rowStrides, frameLimits, rowLimits};
 ghost use Rattle.values.specs.Operations.{Ready};
-ghost use Rattle.interp.specs.Writes.{RootsIn, Completes};
-ghost use Rattle.interp.specs.Evaluation.{TablesOk, proverRest, proverRows, verifierRest, verifierRows, rowRest, rowRows, lengths, ProverAnswer, VerifierAnswer, RowAnswer};
+ghost use Rattle.evaluation.specs.Writes.{RootsIn, Completes};
+ghost use Rattle.evaluation.specs.Evaluation.{TablesOk, proverRest, proverRows, verifierRest, verifierRows, rowRest, rowRows, lengths, ProverAnswer, VerifierAnswer, RowAnswer};
 ghost use Rattle.values.specs.Room.{RoomHolds};
-ghost use Rattle.interp.specs.Attempt.{Sufficient, Attempt};
-use super::evals::write_roots;
-use super::frame::Lengths;
-use super::refuse::form_refusal;
-use super::refuse::lowest_ext_root;
-use super::refuse::memory_refusal;
-use super::refuse::root_is_ext;
-use super::refuse::roots_fit;
-use super::refuse::short_evals;
-use field::extensions_goldilocks::Ext;
+ghost use Rattle.evaluation.specs.Attempt.{Sufficient, Attempt};
+use evaluation::evals::Evaluated;
+use evaluation::evals::write_roots;
+use evaluation::frame::Lengths;
+use evaluation::refuse::form_refusal;
+use evaluation::refuse::lowest_ext_root;
+use evaluation::refuse::memory_refusal;
+use evaluation::refuse::root_is_ext;
+use evaluation::refuse::roots_fit;
+use evaluation::refuse::short_evals;
+use extension::extensions_goldilocks::Ext;
 use field::goldilocks::Fp;
 use ir::frame::Shape;
 use ir::program::Counts;
@@ -597,12 +598,6 @@ pub fn eval_program_verifier(
             Outcome::Done
         }
     }
-}
-
-// A base value, or a refusal.
-pub enum Evaluated {
-    Base(u64),
-    Rejected(Refusal),
 }
 
 fn row_limits(width: usize) -> Limits

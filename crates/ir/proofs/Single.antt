@@ -1,20 +1,15 @@
 -- Each call's promise leaves one answer and one memory.
 -- Assumes nothing.
 use mathlib.Core.Bool.{false, cond}
-use mathlib.Core.List.{List}
 use mathlib.Core.Path.{_≡_, refl, sym, ap, _∙_}
 use Prim.Native.Nat.{ℕ}
 use lib.Dec.{eqb}
-use lib.ListN.{getD}
-use Rattle.ir.specs.declared.reads.Columns.{Columns}
-use Rattle.ir.specs.declared.reads.Columns.the-variants.{Listed, Refused}
 use Rattle.ir.specs.declared.refusal.Refusal.{Refusal}
 use Rattle.ir.specs.declared.refusal.Refusal.the-variants.{ShortMemory, OverLimit, ForeignHandle, NodesFull, ConstantsFull, NoConstraint, IllFormed, TooManyNodes, TooManyRoots, ShortOutput, IllegalBlob, ExtensionRoot, LeafOutside, ShortEvals, BadFraming}
 use Rattle.ir.specs.declared.refusal.Outcome.{Outcome}
 use Rattle.ir.specs.declared.refusal.Outcome.the-variants.{Done}
 use Rattle.ir.specs.declared.refusal.Outcome.the-variants as Outcomes
 use Rattle.ir.specs.Program.{Program, checked}
-use Rattle.ir.specs.Reads.{saidOfColumns, ReadsAnswer}
 use Rattle.ir.specs.Refusals.{Said, saidOf, saidOfOutcome}
 
 -- ---- a case is known by what it says
@@ -68,19 +63,3 @@ outcome-single o o′ e = sym (outcome-back o) ∙ ap outcomeSaid e ∙ outcome-
 -- the program check's contract is an equation on what is said: one answer
 pub check-program-single : (p : Program) {o o′ : Outcome} → saidOfOutcome o ≡ checked p → saidOfOutcome o′ ≡ checked p → o ≡ o′
 check-program-single p {o} {o′} f g = outcome-single o o′ (f ∙ sym g)
-
--- ---- next_row_trace_reads
-
-abbrev columnsSaid : Said → Columns
-columnsSaid s = cond (eqb (s .number) 0) (Listed (getD (s .values) 0 0)) (Refused (refusalOf (s .number) (s .place)))
-
-columns-back : (a : Columns) → columnsSaid (saidOfColumns a) ≡ a
-columns-back (Listed count) = refl
-columns-back (Refused r) = rw (known r .0, known r .1)
-
-pub columns-single : (a a′ : Columns) → saidOfColumns a ≡ saidOfColumns a′ → a ≡ a′
-columns-single a a′ e = sym (columns-back a) ∙ ap columnsSaid e ∙ columns-back a′
-
-pub next-row-trace-reads-single : {p : Program} {width : ℕ} {old new new′ : List ℕ} {a a′ : Columns} → ReadsAnswer p width old new a → ReadsAnswer p width old new′ a′ → (a ≡ a′) × (new ≡ new′)
-next-row-trace-reads-single {p} {width} {old} {new} {new′} {a} {a′} f g =
-    (columns-single a a′ (f .said ∙ sym (g .said)), f .written ∙ sym (g .written))

@@ -99,3 +99,7 @@ abbrev pub inOrder : List Row → List ℕ → Bool
 inOrder [] order = true
 inOrder (r ∷ rs) [] = false
 inOrder (r ∷ rs) (n ∷ order) = cond (eqb (r .number) n) (inOrder rs order) (inOrder (r ∷ rs) order)
+
+-- the words that are written on 0; a refusal leaves what was lent
+abbrev pub onDone : Said → List ℕ → List ℕ → List ℕ
+onDone s new old = cond (eqb (s .number) 0) new old

@@ -20,37 +20,47 @@ abbrev pub nodeAt : List ℕ → ℕ → Node
 nodeAt l i =
     record { tag = getD l (4 * i) 0; x = getD l (4 * i + 1) 0; y = getD l (4 * i + 2) 0; dim = getD l (4 * i + 3) 0 }
 
--- the tags
+-- tag 0: a base constant
 abbrev pub constBase : ℕ
 constBase = 0
 
+-- tag 1: an extension constant
 abbrev pub constExt : ℕ
 constExt = 1
 
+-- tag 2: a trace cell
 abbrev pub var : ℕ
 var = 2
 
+-- tag 3: a challenge
 abbrev pub rapChallenge : ℕ
 rapChallenge = 3
 
+-- tag 4: a power of alpha
 abbrev pub alphaPow : ℕ
 alphaPow = 4
 
+-- tag 5: the table offset
 abbrev pub tableOffset : ℕ
 tableOffset = 5
 
+-- tag 6: a sum
 abbrev pub add : ℕ
 add = 6
 
+-- tag 7: a difference
 abbrev pub sub : ℕ
 sub = 7
 
+-- tag 8: a product
 abbrev pub mul : ℕ
 mul = 8
 
+-- tag 9: a negation
 abbrev pub neg : ℕ
 neg = 9
 
+-- tag 10: a base value as an extension value
 abbrev pub embed : ℕ
 embed = 10
 

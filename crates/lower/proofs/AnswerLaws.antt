@@ -19,11 +19,11 @@ use Rattle.ir.specs.Program.{Program, tooManyNodes, tooManyRoots, shortTables, 
 use Rattle.ir.proofs.ProgramLaws.{few, few-roots, long}
 use Rattle.ir.proofs.WellFormedLaws.{well-formed}
 use Rattle.device.specs.Check.{cleared}
-use Rattle.lower.specs.declared.lower.Lowering.{Lowering}
-use Rattle.lower.specs.declared.lower.Lowering.the-variants.{Lowered, Refused}
-use Rattle.lower.specs.Lower.{blobOf}
-use Rattle.lower.specs.Answer.{Lists, Output, lowering, shortLists, shortOutput, countsOf, lowerSaid, saidOfLowering, emptied, written, LowerAnswer}
-use Rattle.lower.specs.Inner.{LowerOk, WordsAnswer}
+use Rattle.lower_parts.specs.declared.parts.Lowering.{Lowering}
+use Rattle.lower_parts.specs.declared.parts.Lowering.the-variants.{Lowered, Refused}
+use Rattle.lower_parts.specs.Lower.{blobOf}
+use Rattle.lower_parts.specs.Answer.{Lists, Output, lowering, shortLists, shortOutput, countsOf, lowerSaid, saidOfLowering, emptied, written, LowerAnswer}
+use Rattle.lower_parts.specs.Inner.{LowerOk, WordsAnswer}
 use Rattle.lower.proofs.EndLaws.{Exact, zeros}
 
 -- the parts of the lists that n nodes need

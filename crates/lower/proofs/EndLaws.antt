@@ -15,16 +15,16 @@ use Rattle.ir.specs.Refusals.{gives, refuses}
 use Rattle.ir.specs.Program.{Program}
 use Rattle.device.specs.declared.blob.BlobCounts.{BlobCounts}
 use Rattle.device.specs.Check.{cleared}
-use Rattle.lower.specs.declared.lower.Lowering.{Lowering}
-use Rattle.lower.specs.declared.lower.Lowering.the-variants.{Lowered, Refused}
-use Rattle.scan.specs.Liveness.{live}
+use Rattle.lower_parts.specs.declared.parts.Lowering.{Lowering}
+use Rattle.lower_parts.specs.declared.parts.Lowering.the-variants.{Lowered, Refused}
+use Rattle.liveness.specs.Liveness.{live}
 use Rattle.scan.specs.Scan.{scan, flat}
-use Rattle.lower.specs.Lower.{blobOf}
-use Rattle.lower.specs.Answer.{Lists, Output, lowering, shortOutput, countsOf, saidOfLowering, emptied, written}
-use Rattle.scan.specs.Arrays.{busy, LiveOk, Alive}
-use Rattle.lower.specs.Inner.{WriteOk, BlobWritten, ListsLong, CountsOk, LowerOk, WordsAnswer}
+use Rattle.lower_parts.specs.Lower.{blobOf}
+use Rattle.lower_parts.specs.Answer.{Lists, Output, lowering, shortOutput, countsOf, saidOfLowering, emptied, written}
+use Rattle.liveness.specs.LiveLists.{busy, LiveOk, Alive}
+use Rattle.lower_parts.specs.Inner.{WriteOk, BlobWritten, ListsLong, CountsOk, LowerOk, WordsAnswer}
 use Rattle.scan.proofs.WordLaws.{flat-length}
-use Rattle.scan.proofs.AgreeLaws.{out-count, nodes-below, roots-below}
+use Rattle.lower_parts.proofs.AgreeLaws.{out-count, nodes-below, roots-below}
 
 -- ---- lists of 0
 

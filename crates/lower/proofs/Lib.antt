@@ -1,6 +1,4 @@
 -- Lemmas of lowering.
 pub mod AnswerLaws
-pub mod BlobLaws
 pub mod EndLaws
-pub mod OutLaws
 pub mod Single

@@ -7,9 +7,9 @@ use lib.ListN.{getD}
 use Rattle.ir.specs.Program.{Program}
 use Rattle.ir.specs.Refusals.{Said, inOrder, programOrder}
 use Rattle.ir.proofs.Single.{refusalOf, known}
-use Rattle.lower.specs.declared.lower.Lowering.{Lowering}
-use Rattle.lower.specs.declared.lower.Lowering.the-variants.{Lowered, Refused}
-use Rattle.lower.specs.Answer.{Lists, Output, lowerRows, saidOfLowering, LowerAnswer}
+use Rattle.lower_parts.specs.declared.parts.Lowering.{Lowering}
+use Rattle.lower_parts.specs.declared.parts.Lowering.the-variants.{Lowered, Refused}
+use Rattle.lower_parts.specs.Answer.{Lists, Output, lowerRows, saidOfLowering, LowerAnswer}
 
 abbrev loweringSaid : Said → Lowering
 loweringSaid s =

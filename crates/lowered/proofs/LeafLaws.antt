@@ -19,8 +19,8 @@ use Rattle.laws.proofs.Tests.{or-left, or-right}
 use Rattle.laws.proofs.Folds.{lowest-none}
 use Rattle.laws.proofs.Tabulate.{tabulate-at, length-tabulate}
 use Rattle.field.specs.Base.{p}
-use Rattle.field.specs.Ext.{limb}
-use Rattle.field.specs.Tower.{goldilocks, remainders}
+use Rattle.extension.specs.Ext.{limb}
+use Rattle.extension.specs.Tower.{goldilocks, remainders}
 use Rattle.ir.specs.declared.program.Counts.{Counts}
 use Rattle.ir.specs.declared.frame.Shape.{Shape}
 use Rattle.ir.specs.Words.{Node, nodeAt, mainOf, offsetOf}
@@ -28,11 +28,10 @@ use Rattle.ir.specs.WellFormed.{NodeFacts, WellFormed}
 use Rattle.values.specs.Values.{Value, base, ext, Leaves, leafValue}
 use Rattle.values.specs.Frame.{Lent, word, triple, leaves, outside, cellOutside, nodeOutside, proverStrides, frameLimits}
 use Rattle.device.specs.declared.blob.BlobCounts.{BlobCounts}
-use Rattle.walk.specs.Trace.{rowAt, contents}
-use Rattle.lower.specs.Answer.{over}
+use Rattle.slots.specs.Trace.{rowAt, contents}
+use Rattle.lower_parts.specs.Answer.{over}
 use Rattle.scan.proofs.WordLaws.{by-leaf}
-use Rattle.lowered.specs.Faithful.{withConstants}
-use Rattle.lowered.specs.Faithful.{leavesOf}
+use Rattle.lowered.specs.Faithful.{withConstants, leavesOf}
 use Rattle.lowered.proofs.ValueLaws.{LeafFits}
 use Rattle.lowered.proofs.SameLaws.{over-at}
 

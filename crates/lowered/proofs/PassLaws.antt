@@ -18,7 +18,7 @@ use Rattle.laws.proofs.Cases.{by-test}
 use Rattle.laws.proofs.Folds.{none-lowest}
 use Rattle.laws.proofs.Options.{after-some}
 use Rattle.laws.proofs.Tabulate.{tabulate-at}
-use Rattle.field.specs.Tower.{Tower}
+use Rattle.extension.specs.Tower.{Tower}
 use Rattle.ir.specs.declared.program.Counts.{Counts}
 use Rattle.ir.specs.declared.frame.Shape.{Shape}
 use Rattle.ir.specs.Words.{nodeAt}
@@ -32,9 +32,9 @@ use Rattle.device.specs.Blob.{Blob, instrAt, isExt, tags, kinds}
 use Rattle.device.specs.StepRule.{Contents, Slots, step, slotsAfter, rootHeld, rootValue, stopsAt}
 use Rattle.device.specs.Check.{legalRows}
 use Rattle.device.proofs.Theorem.{passes}
-use Rattle.scan.specs.Liveness.{Liveness, Sound}
+use Rattle.liveness.specs.Liveness.{Liveness, Sound}
 use Rattle.scan.specs.Scan.{scan, flat, slotWord}
-use Rattle.lower.specs.Lower.{Lowered, rootWord, lowered, blobOf}
+use Rattle.lower_parts.specs.Lower.{Lowered, rootWord, lowered, blobOf}
 use Rattle.scan.proofs.ScanLaws.{root-held}
 use Rattle.lowered.specs.Faithful.{leavesOf}
 use Rattle.lowered.proofs.PutLaws.{word-class}

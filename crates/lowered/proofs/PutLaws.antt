@@ -11,7 +11,7 @@ use lib.ListN.{length, length-append}
 use borrow.Author.Tests.{lt-ltb}
 use Rattle.laws.specs.Maps.{upd}
 use Rattle.laws.specs.Options.{after, on1, onlyIf}
-use Rattle.field.specs.Tower.{Tower}
+use Rattle.extension.specs.Tower.{Tower}
 use Rattle.ir.specs.declared.frame.Shape.{Shape}
 use Rattle.values.specs.Values.{Value, base, ext, classOf}
 use Rattle.device.specs.declared.blob.BlobCounts.{BlobCounts}

@@ -22,9 +22,9 @@ use Rattle.ir.specs.Shape.{overShape}
 use Rattle.ir.specs.Refusals.{Said, Row, found, anyHolds, gives}
 use Rattle.ir.proofs.RefusalLaws.{done-quiet, not-found}
 use Rattle.values.specs.declared.frame.Limits.{Limits}
-use Rattle.interp.specs.declared.frame.Lengths.{Lengths}
+use Rattle.evaluation.specs.declared.frame.Lengths.{Lengths}
 use Rattle.values.specs.Frame.{Lent, nodeOutside, frameLimits}
-use Rattle.interp.specs.Evaluation.{shortFrame, shortMemory, shortEvals, extRoot, rootDim, proverRows, lengths, ProverAnswer}
+use Rattle.evaluation.specs.Evaluation.{shortFrame, shortMemory, shortEvals, extRoot, rootDim, proverRows, lengths, ProverAnswer}
 
 -- where 12 is not given, a root below num_base is base
 pub leading-base : (c : Counts) (nodes roots : List ℕ) → extRoot c nodes roots ≡ none → (r : ℕ) → r < c .roots → r < numBase c → nodeAt nodes (getD roots r 0) .dim ≡ 0

@@ -13,15 +13,15 @@ use borrow.Author.Tests.{ltb-true, ltb-false}
 use Rattle.laws.specs.Maps.{upd}
 use Rattle.laws.specs.Options.{after}
 use Rattle.laws.proofs.Cases.{by-test}
-use Rattle.field.specs.Tower.{Tower}
+use Rattle.extension.specs.Tower.{Tower}
 use Rattle.ir.specs.declared.frame.Shape.{Shape}
 use Rattle.ir.specs.Words.{Node, nodeAt}
 use Rattle.values.specs.Values.{Value, Leaves, leafValue, nodeValue, values}
-use Rattle.interp.specs.Evals.{baseWord, extWords, baseEvals, extEvals}
+use Rattle.evaluation.specs.Evals.{baseWord, extWords, baseEvals, extEvals}
 use Rattle.device.specs.declared.blob.BlobCounts.{BlobCounts}
 use Rattle.device.specs.Blob.{Instr, instrAt, Form, Kind}
 use Rattle.device.specs.StepRule.{Contents, Slots, step, slotsAfter}
-use Rattle.lower.specs.Answer.{over}
+use Rattle.lower_parts.specs.Answer.{over}
 
 -- ---- words over others
 

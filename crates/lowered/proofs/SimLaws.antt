@@ -12,7 +12,7 @@ use borrow.Author.Tests.{ltb-true, ltb-false, lt-ltb, le-ltb, eqb-false, eq-eqb}
 use Rattle.laws.specs.Options.{after, at}
 use Rattle.laws.proofs.Cases.{by-test}
 use Rattle.laws.proofs.Tests.{and-left, and-right}
-use Rattle.field.specs.Tower.{Tower}
+use Rattle.extension.specs.Tower.{Tower}
 use Rattle.ir.specs.declared.program.Counts.{Counts}
 use Rattle.ir.specs.declared.frame.Shape.{Shape}
 use Rattle.ir.specs.Words.{Node, nodeAt}
@@ -25,9 +25,9 @@ use Rattle.device.specs.declared.blob.BlobCounts.{BlobCounts}
 use Rattle.device.specs.Blob.{Instr, isExt, Binary, plus, minus, times, binary, tags, kinds}
 use Rattle.device.specs.StepRule.{Contents, Slots, operand, op₀, op₁, valueOf, step, slotsAfter, rootHeld}
 use Rattle.device.proofs.Theorem.{by-operation}
-use Rattle.scan.specs.Liveness.{has, operands, isUniform, Liveness, Sound}
+use Rattle.liveness.specs.Liveness.{has, operands, isUniform, Liveness, Sound}
 use Rattle.scan.specs.Scan.{Scan, pick, more, slotWord, uniformKind, encode, written, giveAll, claim, scan, flat}
-use Rattle.lower.specs.Lower.{rootWord}
+use Rattle.lower_parts.specs.Lower.{rootWord}
 use Rattle.scan.proofs.SlotLaws.{upd-case, kept, Good, pick-unheld}
 use Rattle.scan.proofs.ScanLaws.{cond-case, not-true, given, give-all, given-keeps, freed, taken, Kept, freed-kept, scan-kept, taken-low, next-mono, next-le, operand-held, root-held}
 use Rattle.lowered.specs.Faithful.{leavesOf}

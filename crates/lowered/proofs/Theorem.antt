@@ -14,7 +14,7 @@ use Rattle.laws.specs.Folds.{lowest}
 use Rattle.laws.specs.Lists.{tabulate}
 use Rattle.laws.proofs.Tabulate.{length-tabulate}
 use Rattle.field.specs.Base.{p}
-use Rattle.field.specs.Tower.{goldilocks}
+use Rattle.extension.specs.Tower.{goldilocks}
 use Rattle.ir.specs.declared.program.Counts.{Counts}
 use Rattle.ir.specs.declared.frame.Shape.{Shape}
 use Rattle.ir.specs.declared.refusal.Outcome.{Outcome}
@@ -29,24 +29,24 @@ use Rattle.ir.proofs.Single.{outcome-single}
 use Rattle.ir.proofs.WellFormedLaws.{well-formed}
 use Rattle.values.specs.Values.{Value, values}
 use Rattle.values.specs.Frame.{Lent, leaves, proverStrides, nodeOutside, frameLimits}
-use Rattle.interp.specs.Evals.{baseEvals, extEvals}
-use Rattle.interp.specs.Evaluation.{lengths, ProverAnswer}
-use Rattle.interp.specs.Evaluation as Evaluation
+use Rattle.evaluation.specs.Evals.{baseEvals, extEvals}
+use Rattle.evaluation.specs.Evaluation.{lengths, ProverAnswer}
+use Rattle.evaluation.specs.Evaluation as Evaluation
 use Rattle.values.proofs.RunLaws.{valueAt, value-stays}
 use Rattle.device.specs.declared.blob.BlobCounts.{BlobCounts}
 use Rattle.device.specs.Blob.{Blob, instrAt, tags, kinds}
 use Rattle.device.specs.StepRule.{Contents, Slots, slotsAfter, rootHeld}
 use Rattle.device.specs.Check.{shortCheck, checkRows, legalRows, slotCount, CheckAnswer}
-use Rattle.walk.specs.Slots.{slotWords}
-use Rattle.walk.specs.Trace.{contents}
+use Rattle.slots.specs.Slots.{slotWords}
+use Rattle.slots.specs.Trace.{contents}
 use Rattle.walk.specs.Walk.{shortFrame, shortWalk, shortEvals, frameLengths, memoryRows, walkRows, valueOr, slotsOr, finalSlots, rootValues, WalkAnswer}
-use Rattle.lower.specs.declared.lower.Lowering.{Lowering}
-use Rattle.lower.specs.declared.lower.Lowering.the-variants.{Lowered}
-use Rattle.scan.specs.Liveness.{Liveness, live}
+use Rattle.lower_parts.specs.declared.parts.Lowering.{Lowering}
+use Rattle.lower_parts.specs.declared.parts.Lowering.the-variants.{Lowered}
+use Rattle.liveness.specs.Liveness.{Liveness, live}
 use Rattle.scan.specs.Scan.{scan, flat}
-use Rattle.lower.specs.Lower.{lowered, blobOf}
-use Rattle.lower.specs.Lower as Lower
-use Rattle.lower.specs.Answer.{Lists, Output, lowering, shortLists, shortOutput, lowerRows, lowerSaid, saidOfLowering, countsOf, over, written, LowerAnswer}
+use Rattle.lower_parts.specs.Lower.{lowered, blobOf}
+use Rattle.lower_parts.specs.Lower as Lower
+use Rattle.lower_parts.specs.Answer.{Lists, Output, lowering, shortLists, shortOutput, lowerRows, lowerSaid, saidOfLowering, countsOf, over, written, LowerAnswer}
 use Rattle.scan.proofs.LiveLaws.{live-sound}
 use Rattle.lower.proofs.Single.{lowering-single}
 use Rattle.scan.proofs.WordLaws.{flat-length}

@@ -10,7 +10,7 @@ use lib.Dec.{eqb, ltb}
 use borrow.Author.Tests.{lt-ltb, eq-eqb}
 use Rattle.laws.specs.Options.{after, on1, on2, onlyIf, at}
 use Rattle.laws.proofs.Cases.{by-test}
-use Rattle.field.specs.Tower.{Tower}
+use Rattle.extension.specs.Tower.{Tower}
 use Rattle.ir.specs.declared.frame.Shape.{Shape}
 use Rattle.ir.specs.Words.{mainOf, offsetOf}
 use Rattle.ir.specs.Program.{joined}

@@ -9,7 +9,7 @@ use Prim.Native.Nat.{ℕ, _<_, _≤_}
 use lib.ListN.{length, getD}
 use Rattle.laws.specs.Folds.{lowest}
 use Rattle.laws.specs.Options.{after}
-use Rattle.field.specs.Tower.{Tower, goldilocks}
+use Rattle.extension.specs.Tower.{Tower, goldilocks}
 use Rattle.ir.specs.declared.program.Counts.{Counts}
 use Rattle.ir.specs.declared.frame.Shape.{Shape}
 use Rattle.ir.specs.declared.refusal.Outcome.{Outcome}
@@ -18,19 +18,19 @@ use Rattle.ir.specs.Program.{Program, numBase, tooManyNodes, illFormed}
 use Rattle.ir.specs.Refusals.{first, gives}
 use Rattle.values.specs.Values.{Value, base, Leaves, values}
 use Rattle.values.specs.Frame.{Lent, lent, leaves, proverStrides, nodeOutside, frameLimits}
-use Rattle.interp.specs.Evals.{baseEvals, extEvals}
-use Rattle.interp.specs.Evaluation.{shortEvals, extRoot, ProverAnswer}
+use Rattle.evaluation.specs.Evals.{baseEvals, extEvals}
+use Rattle.evaluation.specs.Evaluation.{shortEvals, extRoot, ProverAnswer}
 use Rattle.device.specs.declared.blob.BlobCounts.{BlobCounts}
 use Rattle.device.specs.Blob.{Blob, tags, kinds}
 use Rattle.device.specs.StepRule.{Contents, slotsAfter, rootHeld}
 use Rattle.device.specs.Check.{slotCount, legalRows, CheckAnswer}
-use Rattle.walk.specs.Slots.{slotWords}
+use Rattle.slots.specs.Slots.{slotWords}
 use Rattle.walk.specs.Walk.{WalkAnswer}
-use Rattle.scan.specs.Liveness.{Liveness, Sound}
-use Rattle.lower.specs.declared.lower.Lowering.{Lowering}
-use Rattle.lower.specs.declared.lower.Lowering.the-variants.{Lowered}
-use Rattle.lower.specs.Lower.{lowered, blobOf}
-use Rattle.lower.specs.Answer.{Lists, Output, lowering, shortLists, shortOutput, LowerAnswer}
+use Rattle.liveness.specs.Liveness.{Liveness, Sound}
+use Rattle.lower_parts.specs.declared.parts.Lowering.{Lowering}
+use Rattle.lower_parts.specs.declared.parts.Lowering.the-variants.{Lowered}
+use Rattle.lower_parts.specs.Lower.{lowered, blobOf}
+use Rattle.lower_parts.specs.Answer.{Lists, Output, lowering, shortLists, shortOutput, LowerAnswer}
 
 -- ---- of the functions that are called
 

@@ -15,7 +15,7 @@ use lib.Seq.{getD-set-same, getD-set-other}
 use borrow.Author.Tests.{lt-ltb, le-ltb, ltb-true, ltb-false, leb-true, le-leb, eqb-true, eqb-false, eq-eqb, ne-eqb}
 use Rattle.ir.specs.Words.{Node, nodeAt}
 use Rattle.node_table.specs.Words.{put, same, view, lookup}
-use Rattle.node_table.specs.Table.{walk, seek, used, Table, stops, find, room, Pushed, appended, pushAt, push, Reached, Sound}
+use Rattle.node_table.specs.Table.{onward, seek, used, Table, stops, find, room, Pushed, appended, pushAt, push, Reached, Sound}
 use Rattle.node_table.specs.Model.{Listed, pushList, Follows}
 use Rattle.laws.proofs.Tests.{clash, and-left, and-right}
 use Rattle.node_table.proofs.Laws.{same-eq, eq-same, put-other, put-same, view-length, view-same, lookup-absent, lookup-present}
@@ -47,9 +47,9 @@ module _ (nodes : List ℕ) (n : ℕ) (w : Node) where
 pub record Fresh (k : ℕ) (places : List ℕ) (s r : ℕ) : Type 0 where
   pub steps : ℕ
   pub low : steps < k
-  pub place : r ≡ walk k s steps
+  pub place : r ≡ onward k s steps
   pub free : getD places r 0 ≡ 0
-  pub passed : (e : ℕ) → e < steps → getD places (walk k s e) 0 ≢ 0
+  pub passed : (e : ℕ) → e < steps → getD places (onward k s e) 0 ≢ 0
 
 -- ---- what a lookup comes out with
 
@@ -69,7 +69,7 @@ module _ (start : Node → ℕ) (t : Table) (w : Node) (sound : Sound start t) w
   no-free-first : (i r : ℕ) → i < t .count → nodeAt (t .nodes) i ≡ w → Stop test k k (start w) r → at-word r ≢ 0
   no-free-first i r h e s z =
       let c = subst (λ v. Reached k (t .places) (start v) i) e (sound .reached i h) in
-      let z′ : at-word (walk k (start w) (s .steps)) ≡ 0 = ap at-word (sym (s .place)) ∙ z in
+      let z′ : at-word (onward k (start w) (s .steps)) ≡ 0 = ap at-word (sym (s .place)) ∙ z in
       by-cases (decLt (s .steps) (c .steps))
       (λ l. c .passed (s .steps) l z′)
       λ l.
@@ -77,7 +77,7 @@ module _ (start : Node → ℕ) (t : Table) (w : Node) (sound : Sound start t) w
       (λ m. clash (stops-at (t .nodes) (t .count) w _ i (c .here) h e) (s .before (c .steps) m))
       λ m.
       let q : c .steps ≡ s .steps = omega arith in
-      let y : 0 ≡ suc i = sym z′ ∙ ap (λ d. at-word (walk k (start w) d)) (sym q) ∙ c .here in
+      let y : 0 ≡ suc i = sym z′ ∙ ap (λ d. at-word (onward k (start w) d)) (sym q) ∙ c .here in
       omega arith
 
   present-at : (i r : ℕ) → i < t .count → nodeAt (t .nodes) i ≡ w → Stop test k k (start w) r ⊎ Missed test k k (start w) r → (r < k) × (at-word r ≡ suc i)
@@ -161,7 +161,7 @@ module _ (start : Node → ℕ) (t : Table) (w : Node) (sound : Sound start t) w
         record {
           steps = c .steps;
           low = c .low;
-          here = by-cases (ℕ-discrete (walk k s (c .steps)) r)
+          here = by-cases (ℕ-discrete (onward k s (c .steps)) r)
               (λ e. absurd (omega (arith, sym (f .free) ∙ ap at-word (sym e) ∙ c .here))) λ n. other-r _ n ∙ c .here;
           passed = λ e h. stays _ (c .passed e h);
         }

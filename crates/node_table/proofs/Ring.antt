@@ -11,25 +11,25 @@ use lib.ListN.{length, getD, set, length-set}
 use lib.Dec.{eqb, ltb}
 use lib.Seq.{getD-set-same, getD-set-other}
 use borrow.Author.Tests.{lt-ltb, le-ltb, ltb-true, ltb-false, eqb-true, eqb-false, eq-eqb, ne-eqb}
-use Rattle.node_table.specs.Table.{next, walk, seek, used}
+use Rattle.node_table.specs.Table.{next, onward, seek, used}
 use Rattle.laws.proofs.Cases.{by-test}
 use Rattle.node_table.proofs.Laws.{cond-case}
 
 pub next-low : (k at : ℕ) → at < k → next k at < k
 next-low k at h = cond-case (λ r. r < k) (ltb (at + 1) k) (at + 1) 0 (λ q. ltb-true _ _ q) λ q. omega arith
 
-pub walk-within : (k at d : ℕ) → at < k → walk k at d < k
-unfolding walk
+pub walk-within : (k at d : ℕ) → at < k → onward k at d < k
+unfolding onward
 walk-within k at zero h = h
 walk-within k at (suc d) h = walk-within k (next k at) d (next-low k at h)
 
-walk-low : (k at d : ℕ) → at + d < k → walk k at d ≡ at + d
-unfolding walk
+walk-low : (k at d : ℕ) → at + d < k → onward k at d ≡ at + d
+unfolding onward
 walk-low k at zero h = omega arith
 walk-low k at (suc d) h = rw (lt-ltb (at + 1) k (omega arith)) (walk-low k (at + 1) d (omega arith) ∙ omega arith)
 
-walk-high : (k at d : ℕ) → at < k → k ≤ at + d → at + d < k + k → walk k at d + k ≡ at + d
-unfolding walk
+walk-high : (k at d : ℕ) → at < k → k ≤ at + d → at + d < k + k → onward k at d + k ≡ at + d
+unfolding onward
 walk-high k at zero a h b = absurd (omega arith)
 walk-high k at (suc d) a h b =
     by-cases (decLt (at + 1) k)
@@ -39,7 +39,7 @@ walk-high k at (suc d) a h b =
     rw (le-ltb (at + 1) k (omega arith)) (omega (arith, walk-low k 0 d (omega arith)))
 
 -- every place is met
-pub meets : (k at q : ℕ) → at < k → q < k → (d : ℕ) × (d < k) × (walk k at d ≡ q)
+pub meets : (k at q : ℕ) → at < k → q < k → (d : ℕ) × (d < k) × (onward k at d ≡ q)
 meets k at q a h =
     by-cases (decLt q at)
     (λ n. (q + k - at, omega arith, omega (arith, walk-high k at (q + k - at) a (omega arith) (omega arith))))
@@ -50,21 +50,21 @@ module _ (test : ℕ → Bool) (k : ℕ) where
   pub record Stop (left at r : ℕ) : Type 0 where
     pub steps : ℕ
     pub low : steps < left
-    pub place : r ≡ walk k at steps
+    pub place : r ≡ onward k at steps
     pub passes : test r ≡ true
-    pub before : (e : ℕ) → e < steps → test (walk k at e) ≡ false
+    pub before : (e : ℕ) → e < steps → test (onward k at e) ≡ false
 
   pub record Missed (left at r : ℕ) : Type 0 where
     pub end : r ≡ k
-    pub all : (e : ℕ) → e < left → test (walk k at e) ≡ false
+    pub all : (e : ℕ) → e < left → test (onward k at e) ≡ false
 
-  first-then : (at left : ℕ) → test at ≡ false → ((e : ℕ) → e < left → test (walk k (next k at) e) ≡ false) → (e : ℕ) → e < suc left → test (walk k at e) ≡ false
-  unfolding walk
+  first-then : (at left : ℕ) → test at ≡ false → ((e : ℕ) → e < left → test (onward k (next k at) e) ≡ false) → (e : ℕ) → e < suc left → test (onward k at e) ≡ false
+  unfolding onward
   first-then at left q h zero l = q
   first-then at left q h (suc e) l = h e (omega arith)
 
   later : (left at r : ℕ) → test at ≡ false → Stop left (next k at) r ⊎ Missed left (next k at) r → Stop (suc left) at r ⊎ Missed (suc left) at r
-  unfolding walk
+  unfolding onward
   later left at r q (inl s) =
       inl
       (record {
@@ -77,7 +77,7 @@ module _ (test : ℕ → Bool) (k : ℕ) where
   later left at r q (inr m) = inr (record { end = m .end; all = first-then at left q (m .all) })
 
   pub seek-cases : (left at : ℕ) → Stop left at (seek test k left at) ⊎ Missed left at (seek test k left at)
-  unfolding seek walk
+  unfolding seek onward
   seek-cases zero at = inr (record { end = refl; all = λ e h. absurd (omega arith) })
   seek-cases (suc left) at =
       cond-case (λ r. Stop (suc left) at r ⊎ Missed (suc left) at r) (test at) at (seek test k left (next k at))

@@ -11,6 +11,7 @@ use Rattle.ir.specs.Words.{Node}
 use Rattle.node_table.specs.Words.{view, lookup}
 use Rattle.node_table.specs.Table.{Pushed}
 
+-- the id that a push answers, and the nodes after it
 pub record Listed : Type 0 where
   pub id : Option ℕ
   pub list : List Node
@@ -21,6 +22,7 @@ pushList room xs w =
     cond (ltb (lookup w xs) (length xs)) (record { id = some (lookup w xs); list = xs })
     (cond (ltb (length xs) room) (record { id = some (length xs); list = xs ++ (w ∷ []) }) (record { id = none; list = xs }))
 
+-- a push over memory answers and leaves what the push over a list does
 pub record Follows (o : Pushed) (m : Listed) : Type 0 where
   pub ids : o .id ≡ m .id
   pub lists : view (o .after .nodes) (o .after .count) ≡ m .list

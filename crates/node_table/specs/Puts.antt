@@ -8,6 +8,7 @@ use Rattle.node_table.specs.Table.{Pushed}
 use Rattle.node_table.specs.declared.table.Put.{Put}
 use Rattle.node_table.specs.declared.table.Put.the-variants.{At, Full}
 
+-- the id of the code's answer
 abbrev pub idOf : Put → Option ℕ
 idOf (At id count) = some id
 idOf Full = none
@@ -17,6 +18,7 @@ abbrev pub countOf : ℕ → Put → ℕ
 countOf n (At id count) = count
 countOf n Full = n
 
+-- the promise: the answer, the count and each lent word are the outcome's
 pub record Pushes (o : Pushed) (n : ℕ) (r : Put) (ns ps : List ℕ) : Type 0 where
   pub id : idOf r ≡ o .id
   pub count : countOf n r ≡ o .after .count

@@ -16,20 +16,23 @@ use Rattle.node_table.specs.Words.{put, same}
 abbrev pub next : ℕ → ℕ → ℕ
 next k at = cond (ltb (at + 1) k) (at + 1) 0
 
-unfoldable pub walk : ℕ → ℕ → ℕ → ℕ
-walk k at zero = at
-walk k at (suc d) = walk k (next k at) d
+-- and the one that is d places on
+unfoldable pub onward : ℕ → ℕ → ℕ → ℕ
+onward k at zero = at
+onward k at (suc d) = onward k (next k at) d
 
 -- from `at`, the first of `left` places that passes the test, else k
 unfoldable pub seek : (ℕ → Bool) → ℕ → ℕ → ℕ → ℕ
 seek test k zero at = k
 seek test k (suc left) at = let r = seek test k left (next k at) in cond (test at) at r
 
+-- nodes and places as lent, and how many nodes there are
 pub record Table : Type 0 where
   pub nodes : List ℕ
   pub places : List ℕ
   pub count : ℕ
 
+-- the three together
 abbrev pub table : List ℕ → List ℕ → ℕ → Table
 table nodes places count = record { nodes = nodes; places = places; count = count }
 
@@ -45,10 +48,12 @@ find s t w = seek (λ at. stops (t .nodes) (t .count) w (getD (t .places) at 0))
 abbrev pub room : Table → ℕ
 room t = min (length (t .nodes) / 4) (min (length (t .places)) 536870911)
 
+-- what a push answers, and the table after it
 pub record Pushed : Type 0 where
   pub id : Option ℕ
   pub after : Table
 
+-- the table with a new node and its place
 abbrev pub appended : Table → Node → ℕ → Table
 appended t w at = record { nodes = put (t .nodes) (t .count) w; places = set (t .places) at (suc (t .count)); count = suc (t .count) }
 
@@ -61,6 +66,7 @@ pushAt t w at =
     (record { id = some (getD (t .places) at 0 - 1); after = t }))
     (record { id = none; after = t })
 
+-- a push: the lookup, then what it found
 unfoldable pub push : ℕ → Table → Node → Pushed
 push s t w = pushAt t w (find s t w)
 
@@ -73,8 +79,8 @@ used (v ∷ vs) = cond (eqb v 0) (used vs) (suc (used vs))
 pub record Reached (k : ℕ) (places : List ℕ) (s i : ℕ) : Type 0 where
   pub steps : ℕ
   pub low : steps < k
-  pub here : getD places (walk k s steps) 0 ≡ suc i
-  pub passed : (e : ℕ) → e < steps → getD places (walk k s e) 0 ≢ 0
+  pub here : getD places (onward k s steps) 0 ≡ suc i
+  pub passed : (e : ℕ) → e < steps → getD places (onward k s e) 0 ≢ 0
 
 -- the places stand for the nodes, where the lookup of w starts at `start w`
 pub record Sound (start : Node → ℕ) (t : Table) : Type 0 where

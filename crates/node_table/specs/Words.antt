@@ -8,6 +8,7 @@ use lib.Dec.{eqb}
 use Rattle.node_table.specs.declared.table.Node as code
 use Rattle.ir.specs.Words.{Node, nodeAt}
 
+-- a node, from its words
 abbrev pub node : ℕ → ℕ → ℕ → ℕ → Node
 node t x y d = record { tag = t; x = x; y = y; dim = d }
 

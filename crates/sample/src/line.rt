@@ -1,7 +1,7 @@
 // A line of numbers, and its parts.
 ghost use Prim.Native.Nat.{_<_, _≤_};
 ghost use lib.ListN.{length};
-use field::extensions_goldilocks::Ext;
+use extension::extensions_goldilocks::Ext;
 use ir::frame::Shape;
 
 // The sum, or the most that 64 bits hold, which is past the end of every line.

@@ -1,7 +1,7 @@
 -- The lists of the scan: free slots as stacks, and how many there are.
 -- Assumes nothing.
-use mathlib.Core.Bool.{Bool, true, false, cond, not, _&&_}
-use mathlib.Core.List.{List, [], _∷_, _++_}
+use mathlib.Core.Bool.{Bool, true, false, not, _&&_}
+use mathlib.Core.List.{List, [], _∷_}
 use mathlib.Core.Path.{_≡_, refl, sym, ap, _∙_}
 use Prim.Native.Nat.{ℕ, zero, suc, _+_, _-_, _*_, _<_, _≤_}
 use native.Mathlib.Omega.{arith}
@@ -9,13 +9,12 @@ use native.Mathlib.Numerals.{add-one}
 use lib.Dec.{eqb}
 use lib.ListN.{length, getD, set, length-set}
 use lib.Seq.{getD-set-same, getD-set-other}
-use borrow.Author.Tests.{eqb-true, eqb-false, eq-eqb, ne-eqb}
+use borrow.Author.Tests.{eq-eqb, ne-eqb}
 use Rattle.laws.specs.Maps.{upd}
 use Rattle.laws.proofs.Cases.{by-test}
-use Rattle.ir.specs.Words.{Node, nodeAt}
-use Rattle.scan.specs.Liveness.{Liveness}
-use Rattle.scan.specs.Scan.{Scan, pick, left, more, give}
-use Rattle.scan.specs.Arrays.{Tab, listed, stack, busy, slotsIn, Stands, Takes, ClassOk, GiveOk, Gives}
+use Rattle.ir.specs.Words.{nodeAt}
+use Rattle.scan.specs.Arrays.{stack, Takes, GiveOk, Gives}
+use Rattle.liveness.specs.LiveLists.{Tab, busy}
 use Rattle.scan.proofs.SlotLaws.{upd-case}
 
 -- ---- taking a slot
@@ -93,13 +92,6 @@ busy-set (x ∷ l) zero v =
 busy-set (x ∷ l) (suc j) v =
     let h = busy-set l j v in
     by-test (eqb x 0) (busy (set (x ∷ l) (suc j) v) ≤ suc (busy (x ∷ l))) (λ t. rw t h) λ t. rw t (omega arith)
-
--- where nothing is held, every word is 0
-pub idle : (l : List ℕ) → busy l ≡ 0 → (j : ℕ) → getD l j 0 ≡ 0
-unfolding busy
-idle [] e j = refl
-idle (x ∷ l) e zero = by-test (eqb x 0) (x ≡ 0) (λ t. eqb-true x 0 t) λ t. absurd (omega (arith, rw t at e))
-idle (x ∷ l) e (suc j) = idle l (by-test (eqb x 0) (busy l ≡ 0) (λ t. rw t at e) λ t. absurd (omega (arith, rw t at e))) j
 
 -- a store, as a change of the map
 pub tab-set : (l : List ℕ) (n : ℕ) (f : ℕ → ℕ) (i v : ℕ) → i < length l → Tab l n f → Tab (set l i v) n (upd f i v)

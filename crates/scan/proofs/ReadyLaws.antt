@@ -17,13 +17,15 @@ use Rattle.laws.proofs.Cases.{by-test}
 use Rattle.laws.proofs.Tests.{and-left}
 use Rattle.ir.specs.Words.{Node, nodeAt}
 use Rattle.device.specs.Blob.{Instr}
-use Rattle.scan.specs.Liveness.{has, operands, isUniform, Liveness}
+use Rattle.liveness.specs.Liveness.{has, operands, isUniform, Liveness}
 use Rattle.scan.specs.Scan.{Scan, pick, left, more, slotWord, encode, written, give, giveAll, claim, scan, flat}
-use Rattle.scan.specs.Arrays.{Tab, listed, stack, busy, slotsIn, Stands, Takes, ClassOk, TakeOk, EncOk, GiveOk, WordsOk, Spelt, ReleaseOk, Released, ClaimOk, Claimed, Scannable, Wrote, Ready, Advanced, Begins, Scanned}
+use Rattle.scan.specs.Arrays.{stack, slotsIn, Stands, Takes, ClassOk, TakeOk, EncOk, GiveOk, WordsOk, Spelt, ReleaseOk, Released, ClaimOk, Claimed, Scannable, Wrote, Ready, Advanced, Begins, Scanned}
+use Rattle.liveness.specs.LiveLists.{Tab, listed, busy}
 use Rattle.scan.proofs.SlotLaws.{upd-same, upd-other, upd-case, Good}
 use Rattle.scan.proofs.ScanLaws.{freed, taken, given-keeps, next-le, scan-kept, taken-low}
 use Rattle.scan.proofs.WordLaws.{flat-length}
-use Rattle.scan.proofs.PoolLaws.{busy-set, idle, tab-set, tops-le}
+use Rattle.scan.proofs.PoolLaws.{busy-set, tab-set, tops-le}
+use Rattle.liveness.proofs.MarkLaws.{idle}
 use Rattle.scan.proofs.StepLaws.{has-first, has-second}
 
 -- ---- what a node's words depend on

@@ -14,9 +14,10 @@ use Rattle.laws.specs.Maps.{upd}
 use Rattle.laws.proofs.Cases.{by-test}
 use Rattle.ir.specs.Words.{Node, nodeAt}
 use Rattle.device.specs.Blob.{Instr}
-use Rattle.scan.specs.Liveness.{has, operands, isUniform, Liveness}
+use Rattle.liveness.specs.Liveness.{has, operands, isUniform, Liveness}
 use Rattle.scan.specs.Scan.{Scan, pick, left, more, uniformKind, slotWord, encode, written, give, giveAll, claim, scan, flat}
-use Rattle.scan.specs.Arrays.{Tab, listed, stack, busy, slotsIn, Stands, ClassOk, EncOk, GiveOk, Gives, Spelt, Released}
+use Rattle.scan.specs.Arrays.{stack, slotsIn, Stands, ClassOk, EncOk, GiveOk, Gives, Spelt, Released}
+use Rattle.liveness.specs.LiveLists.{Tab, listed, busy}
 use Rattle.scan.proofs.SlotLaws.{upd-case}
 
 -- ---- operands

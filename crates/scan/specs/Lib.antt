@@ -1,4 +1,3 @@
 -- Liveness and the scan of lowering.
 pub mod Arrays
-pub mod Liveness
 pub mod Scan

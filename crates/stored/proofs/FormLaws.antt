@@ -9,7 +9,7 @@ use native.Mathlib.Omega.{arith}
 use lib.ListN.{length, getD, set, take, drop, length-append, List·getD-map, length-map}
 use lib.Seq.{sets, length-sets, drop-drop, length-take-le}
 use Rattle.laws.proofs.Parts.{sets-append}
-use Rattle.ir.specs.Bytes.{leValue, leBytes}
+use Rattle.bytes.specs.Bytes.{leValue, leBytes}
 use Rattle.field.specs.Base.{p}
 use Rattle.device.specs.declared.blob.BlobCounts.{BlobCounts}
 use Rattle.stored.specs.Form.{Tables, spread, words, belowP, distance, named, body, trailerWords, tablesIn}

@@ -1,7 +1,6 @@
 -- Laws of stored form A.
 pub mod AnswerLaws
 pub mod FormLaws
-pub mod ListLaws
 pub mod RoundLaws
 pub mod Single
 pub mod Theorem

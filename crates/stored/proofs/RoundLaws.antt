@@ -8,8 +8,8 @@ use native.Mathlib.Omega.{arith}
 use lib.ListN.{length, getD, take, drop, length-append, length-drop, length-map}
 use lib.Seq.{sets, take-at, drop-at, take-add, drop-drop, drop-append-add, length-take-le, getD-take, getD-drop}
 use Rattle.laws.proofs.Parts.{sets-here}
-use Rattle.ir.specs.Bytes.{leValue, leBytes}
-use Rattle.ir.proofs.BytesLaws.{value-bytes, bytes-value}
+use Rattle.bytes.specs.Bytes.{leValue, leBytes}
+use Rattle.bytes.proofs.BytesLaws.{value-bytes, bytes-value}
 use Rattle.field.specs.Base.{p}
 use Rattle.stored.specs.Form.{spread, words, belowP, trailerWord}
 use Rattle.stored.proofs.FormLaws.{bytes-long, drop-none, below-at}

@@ -1,5 +1,4 @@
--- The promises of `write_stored`, `read_stored` and `list_stored` leave one answer and one memory, and rows stand in document 01's
--- order.
+-- The promises of `write_stored` and `read_stored` leave one answer and one memory, and rows stand in document 01's order.
 -- Assumes nothing.
 use mathlib.Core.Bool.{true, cond}
 use mathlib.Core.List.{List, [], _∷_}
@@ -15,7 +14,6 @@ use Rattle.stored.specs.declared.write.Stored.the-variants as Stored
 use Rattle.stored.specs.declared.read.ReadStored.{ReadStored}
 use Rattle.stored.specs.declared.read.ReadStored.the-variants as ReadStored
 use Rattle.stored.specs.Form.{Tables}
-use Rattle.stored.specs.Listing.{blobList, Puts}
 use Rattle.stored.specs.Answer.{writeRows, saidOfStored, WriteAnswer, readRows, saidOfRead, ReadAnswer}
 use Rattle.stored.proofs.AnswerLaws.{countsSaid}
 
@@ -59,8 +57,3 @@ read-stored-single {file} {rooms} {rooms′} {rooms″} {a} {a′} f g =
 
 pub read-in-order : (file : List ℕ) (rooms : Tables) → inOrder (readRows file rooms) (15 ∷ 10 ∷ []) ≡ true
 read-in-order file rooms = refl
-
--- ---- listing
-
-pub list-stored-single : (file : List ℕ) {out out′ out″ : List ℕ} {r r′ : ℕ} → Puts out 0 524288 (blobList file) out′ r → Puts out 0 524288 (blobList file) out″ r′ → (r ≡ r′) × (out′ ≡ out″)
-list-stored-single file f g = (f .next ∙ sym (g .next), f .stands ∙ sym (g .stands))

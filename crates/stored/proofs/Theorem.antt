@@ -7,8 +7,8 @@ use Prim.Native.Nat.{ℕ, _+_, _-_, _*_, _%_, _^_, _<_, _≤_}
 use native.Mathlib.Omega.{arith}
 use lib.ListN.{length, take, drop, length-append, length-drop, length-map, take-append-drop}
 use lib.Seq.{sets, take-add, take-all, length-take-le}
-use Rattle.ir.specs.Bytes.{leValue}
-use Rattle.ir.proofs.BytesLaws.{value-bytes}
+use Rattle.bytes.specs.Bytes.{leValue}
+use Rattle.bytes.proofs.BytesLaws.{value-bytes}
 use Rattle.field.specs.Base.{p}
 use Rattle.device.specs.declared.blob.BlobCounts.{BlobCounts}
 use Rattle.stored.specs.declared.write.Stored.{Stored}

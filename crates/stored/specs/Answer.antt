@@ -20,6 +20,7 @@ abbrev pub short : BlobCounts → ℕ → ℕ → ℕ → ℕ → Bool
 short c nodes bases exts roots =
     ltb nodes (4 * c .nodes) || ltb bases (c .bases) || ltb exts (3 * c .exts) || ltb roots (c .roots)
 
+-- 1: a table that is shorter than its count
 abbrev pub shortTables : BlobCounts → Tables → Bool
 shortTables c t = short c (length (t .nodes)) (length (t .bases)) (length (t .exts)) (length (t .roots))
 

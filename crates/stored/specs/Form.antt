@@ -6,7 +6,7 @@ use Prim.Native.Nat.{ℕ, zero, suc, _+_, _-_, _*_, _%_}
 use lib.Dec.{eqb, ltb}
 use lib.ListN.{length, take, drop}
 use Rattle.field.specs.Base.{p}
-use Rattle.ir.specs.Bytes.{leValue, leBytes}
+use Rattle.bytes.specs.Bytes.{leValue, leBytes}
 use Rattle.device.specs.declared.blob.BlobCounts.{BlobCounts}
 
 -- a blob's tables: four words a node, one a base constant, three an extension constant, one a root

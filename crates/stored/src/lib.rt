@@ -1,5 +1,4 @@
 // Stored form A: a blob as bytes.
 pub mod form;
-pub mod listing;
 pub mod read;
 pub mod write;

@@ -8,10 +8,10 @@ ghost use Rattle.stored.specs.Answer.{Long, put, ReadAnswer};
 use super::form::TRAILER_BYTES;
 use super::form::body_words;
 use super::form::short_tables;
+use bytes::bytes::u32_at;
+use bytes::bytes::u64_at;
 use device::blob::BlobCounts;
 use field::goldilocks::Fp;
-use ir::bytes::u32_at;
-use ir::bytes::u64_at;
 use ir::refusal::Refusal;
 
 // The blob's counts, with its words at the front of the caller's rooms, or why there are none.

@@ -8,10 +8,10 @@ ghost use Rattle.stored.specs.Answer.{noRoom, Long, WriteAnswer};
 use super::form::TRAILER_BYTES;
 use super::form::body_words;
 use super::form::short_tables;
+use bytes::bytes::put_u32;
+use bytes::bytes::put_u64;
 use device::blob::BlobCounts;
 use field::goldilocks::Fp;
-use ir::bytes::put_u32;
-use ir::bytes::put_u64;
 use ir::refusal::Refusal;
 
 // The length of the file that stands at the front of the caller's room, or why there is none.

@@ -1,60 +1,37 @@
 // A trial's step: one node, tested and evaluated at once. The trial's room was cleared first, its words are below P, and the
 // frame is the prover's, where a value's class is its node's dim; each of the three saves time.
-ghost use mathlib.Core.Bool.{true, false, _&&_};
-ghost use mathlib.Core.List.{List, [], _∷_};
+ghost use mathlib.Core.Bool.{true, false};
 ghost use mathlib.Core.Path.{_≡_};
 ghost use Prim.Native.Nat.{ℕ, _+_, _*_, _<_, _≤_};
-ghost use lib.Dec.{eqb};
 ghost use lib.ListN.{length, getD};
-ghost use lib.Seq.{sets};
-ghost use Rattle.laws.specs.Lists.{tabulate};
-ghost use Rattle.field.specs.Ext.{limb, Limbs, sums, minuses, scaled, product};
-ghost use Rattle.field.specs.Tower.{goldilocks};
+ghost use Rattle.extension.specs.Tower.{goldilocks};
 ghost use Rattle.ir.specs.Words.{mainOf, offsetOf};
 ghost use Rattle.values.specs.Values.{leafValue, base, ext};
 ghost use Rattle.values.specs.Frame.{lent, leaves, word, triple, Fits};
-ghost use Rattle.values.specs.Operations.{extOp};
-ghost use Rattle.values.specs.Room.{ValueIs};
-ghost use Rattle.trial.specs.Trial.{Narrow, leafLimit, LeafFits, Tryable, Tried};
-ghost use Rattle.trial.specs.Step.{Clear, LowRoom, LowLimbs, Standing, entryOf, EntryIn, Put, Operated, Stepped};
-use field::extensions_goldilocks::Ext;
+ghost use Rattle.trial_parts.specs.Trial.{Narrow, LeafFits, Tryable, Tried};
+ghost use Rattle.trial_parts.specs.Step.{Clear, LowRoom, Standing, entryOf, Put, Operated, Stepped};
+use extension::extensions_goldilocks::Ext;
 use field::goldilocks::Fp;
 use ir::node::DIM_BASE;
 use ir::node::DIM_EXT;
 use ir::node::OP_ADD;
-use ir::node::OP_ALPHA_POW;
 use ir::node::OP_CONST_BASE;
-use ir::node::OP_CONST_EXT;
 use ir::node::OP_EMBED;
 use ir::node::OP_NEG;
-use ir::node::OP_RAP_CHALLENGE;
-use ir::node::OP_SUB;
 use ir::node::OP_VAR;
 use ir::program::Counts;
+use trial_parts::parts::all_base;
+use trial_parts::parts::both;
+use trial_parts::parts::entry;
+use trial_parts::parts::ext_binary;
+use trial_parts::parts::leaf_limit;
+use trial_parts::parts::put_base;
+use trial_parts::parts::put_ext;
 use values::frame::Limits;
 use values::frame::Strides;
-use values::run::store_value;
 use values::value::BASE;
-use values::value::EXT;
-use values::value::Value;
 use values::value::base_operation;
 use values::value::ext_leaf;
-use values::value::offset_leaf;
-
-// A base value into the words of node i: the other three are 0 already.
-fn put_base(room: &mut [u64], i: usize, v: u64)
-    requires { ⌜ Clear (now room) i ⌝ }
-    ensures { λ _. ⌜ now (room .exit) ≡ sets (now (room .entry)) (4 * i) (0 ∷ v ∷ 0 ∷ 0 ∷ []) ⌝ }
-{
-    room[4 * i + 1] = v;
-}
-
-fn put_ext(room: &mut [u64], i: usize, limbs: Ext)
-    requires { ⌜ 4 * i + 4 ≤ length (now room) ⌝ }
-    ensures { λ _. ⌜ now (room .exit) ≡ sets (now (room .entry)) (4 * i) (1 ∷ tabulate 3 (limb (limbs .limbs))) ⌝ }
-{
-    store_value(&mut room[..], i, Value { class: EXT, limbs });
-}
 
 // A cell of the main trace.
 fn step_main(
@@ -151,34 +128,6 @@ fn step_const(
     true
 }
 
-// An extension leaf's index is below this, but for cells.
-fn leaf_limit(c: Counts, m: Limits, tag: u32) -> usize
-    ensures { λ r. ⌜ r ≡ leafLimit c m tag ⌝ }
-{
-    let exts = c.exts;
-    let challenges = m.challenges;
-    let alphas = m.alphas;
-    let offsets = m.offsets;
-    match tag {
-        OP_CONST_EXT => exts,
-        OP_RAP_CHALLENGE => challenges,
-        OP_ALPHA_POW => alphas,
-        _ => offsets,
-    }
-}
-
-fn entry(tag: u32, k: usize, offset: Ext, exts: &[u64], challenges: &[u64], alphas: &[u64]) -> Value
-    requires { ⌜ EntryIn tag k (length (now exts)) (length (now challenges)) (length (now alphas)) ⌝ }
-    ensures { λ r. ⌜ ValueIs (ext (entryOf tag k (now (exts .entry)) (now (challenges .entry)) (now (alphas .entry)) (offset .limbs))) (r .class) (r .limbs .limbs) ⌝ }
-{
-    match tag {
-        OP_CONST_EXT => ext_leaf(exts, k),
-        OP_RAP_CHALLENGE => ext_leaf(challenges, k),
-        OP_ALPHA_POW => ext_leaf(alphas, k),
-        _ => offset_leaf(offset),
-    }
-}
-
 // A constant of the extension, a uniform or the table offset.
 fn step_entry(
     c: Counts,
@@ -262,72 +211,6 @@ fn step_leaf(
     )
 }
 
-fn ext_sum(a: Ext, b: Ext) -> Ext
-    requires { ⌜ LowLimbs (a .limbs) × LowLimbs (b .limbs) ⌝ }
-    ensures { λ r. ⌜ Limbs 3 (sums 3 (a .limbs) (b .limbs)) (r .limbs) ⌝ }
-{
-    Ext {
-        limbs: [
-            Fp::add_reduced(a.limbs[0], b.limbs[0]),
-            Fp::add_reduced(a.limbs[1], b.limbs[1]),
-            Fp::add_reduced(a.limbs[2], b.limbs[2]),
-        ],
-    }
-}
-
-fn ext_difference(a: Ext, b: Ext) -> Ext
-    requires { ⌜ LowLimbs (a .limbs) × LowLimbs (b .limbs) ⌝ }
-    ensures { λ r. ⌜ Limbs 3 (sums 3 (a .limbs) (minuses 3 (b .limbs))) (r .limbs) ⌝ }
-{
-    Ext {
-        limbs: [
-            Fp::sub_reduced(a.limbs[0], b.limbs[0]),
-            Fp::sub_reduced(a.limbs[1], b.limbs[1]),
-            Fp::sub_reduced(a.limbs[2], b.limbs[2]),
-        ],
-    }
-}
-
-fn ext_scaled(x: u64, b: Ext) -> Ext
-    ensures { λ r. ⌜ Limbs 3 (scaled 3 x (b .limbs)) (r .limbs) ⌝ }
-{
-    Ext {
-        limbs: [
-            Fp::mul(x, b.limbs[0]),
-            Fp::mul(x, b.limbs[1]),
-            Fp::mul(x, b.limbs[2]),
-        ],
-    }
-}
-
-// An operand is often of the base, whose other limbs are 0: three products then, and not nine.
-fn ext_product(a: Ext, b: Ext) -> Ext
-    ensures { λ r. ⌜ Limbs 3 (product (a .limbs) (b .limbs)) (r .limbs) ⌝ }
-{
-    if a.limbs[1] == 0 {
-        if a.limbs[2] == 0 {
-            return ext_scaled(a.limbs[0], b);
-        }
-    }
-    if b.limbs[1] == 0 {
-        if b.limbs[2] == 0 {
-            return ext_scaled(b.limbs[0], a);
-        }
-    }
-    a.mul(b)
-}
-
-fn ext_binary(tag: u32, a: Ext, b: Ext) -> Ext
-    requires { ⌜ LowLimbs (a .limbs) × LowLimbs (b .limbs) ⌝ }
-    ensures { λ r. ⌜ Limbs 3 (extOp tag (a .limbs) (b .limbs)) (r .limbs) ⌝ }
-{
-    match tag {
-        OP_ADD => ext_sum(a, b),
-        OP_SUB => ext_difference(a, b),
-        _ => ext_product(a, b),
-    }
-}
-
 // Neg keeps its operand's class, Embed is extension.
 fn step_unary(i: usize, tag: u32, x: usize, y: u32, dim: u32, room: &mut [u64]) -> bool
     requires { ⌜ (9 ≤ tag) × (x < i) × Clear (now room) i ⌝ }
@@ -362,19 +245,6 @@ fn step_unary(i: usize, tag: u32, x: usize, y: u32, dim: u32, room: &mut [u64]) 
     let v = Ext::load(&room[..], at + 1).reduce();
     put_ext(&mut room[..], i, v);
     true
-}
-
-fn both(a: bool, b: bool) -> bool
-    ensures { λ r. ⌜ r ≡ (a && b) ⌝ }
-{
-    if a { b } else { false }
-}
-
-// One test of three words in the compiled code: which of them is not 0 does not matter.
-fn all_base(dim: u64, a: u64, b: u64) -> bool
-    ensures { λ r. ⌜ r ≡ (eqb dim 0 && (eqb a 0 && eqb b 0)) ⌝ }
-{
-    both(dim == BASE, both(a == BASE, b == BASE))
 }
 
 // Add, Sub or Mul: base where both operands are.

@@ -1,27 +1,15 @@
 // The trial: one pass that tests each node and evaluates it at once, into a room of its own. The lent room is written only
 // when every node has passed, so that a refusal leaves it as it was.
-ghost use mathlib.Core.Path.{_≡_};
-ghost use Prim.Native.Nat.{_+_, _*_, _≤_};
+ghost use Prim.Native.Nat.{_*_, _≤_};
 ghost use lib.ListN.{length};
-ghost use lib.Seq.{paste};
 ghost use Rattle.values.specs.Frame.{lent};
-ghost use Rattle.trial.specs.Trial.{Tryable, Trial};
+ghost use Rattle.trial_parts.specs.Trial.{Tryable, Trial};
 use super::step::pass;
-use field::extensions_goldilocks::Ext;
+use extension::extensions_goldilocks::Ext;
 use ir::program::Counts;
+use trial_parts::parts::copy_words;
 use values::frame::Limits;
 use values::frame::Strides;
-
-fn copy_words(from: &[u64], to: &mut [u64], count: usize)
-    requires { ⌜ (count ≤ length (now from)) × (count ≤ length (now to)) ⌝ }
-    ensures { λ _. ⌜ now (to .exit) ≡ paste (now (to .entry)) 0 (now (from .entry)) count ⌝ }
-{
-    let mut i: usize = 0;
-    while i < count {
-        to[i] = from[i];
-        i += 1;
-    }
-}
 
 // Up to 128 nodes.
 pub fn try_small(

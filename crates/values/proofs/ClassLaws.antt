@@ -9,7 +9,7 @@ use native.Mathlib.Omega.{arith}
 use lib.Dec.{eqb, ltb}
 use borrow.Author.Tests.{eqb-true, eqb-false, ltb-true, ltb-false, lt-ltb, le-ltb, eq-eqb, ne-eqb}
 use Rattle.laws.proofs.Cases.{by-test}
-use Rattle.field.specs.Tower.{Tower, goldilocks}
+use Rattle.extension.specs.Tower.{Tower, goldilocks}
 use Rattle.ir.specs.declared.program.Counts.{Counts}
 use Rattle.ir.specs.declared.frame.Shape.{Shape}
 use Rattle.ir.specs.Words.{nodeAt, mainOf, offsetOf}

@@ -14,10 +14,10 @@ use borrow.Author.Tests.{eqb-true, eqb-false, lt-ltb, le-ltb}
 use Rattle.laws.specs.Lists.{block}
 use Rattle.laws.proofs.Cases.{by-test}
 use Rattle.field.specs.Base.{p, _≈_, Is, minus}
-use Rattle.field.specs.Ext.{limb, sums, minuses, embedded, product, Near, Limbs, LeastLimbs}
-use Rattle.field.specs.Tower.{goldilocks, remainders}
+use Rattle.extension.specs.Ext.{limb, sums, minuses, embedded, product, Near, Limbs, LeastLimbs}
+use Rattle.extension.specs.Tower.{goldilocks, remainders}
 use Rattle.field.proofs.Laws.{refl≈, sym≈, _then_, equal, reduced, add≈, mul≈, minus≈, stands}
-use Rattle.field.proofs.ExtLaws.{near-trans, limbs-stand, least-limbs, sums-near, minuses-near, product-near, remainders-near, near-sym, limb-embedded}
+use Rattle.extension.proofs.ExtLaws.{near-trans, limbs-stand, least-limbs, sums-near, minuses-near, product-near, remainders-near, near-sym, limb-embedded}
 use Rattle.values.specs.Values.{Value, base, ext, classOf, toExt, binop, unop, leafValue, operationValue, nodeValue}
 use Rattle.values.specs.declared.frame.Strides.{Strides}
 use Rattle.values.specs.Frame.{Lent, leaves}

@@ -13,9 +13,9 @@ use Rattle.laws.specs.Lists.{tabulate, block}
 use Rattle.laws.proofs.Blocks.{BlocksReplaced, blocks-more}
 use Rattle.laws.proofs.Maps.{upd-here, upd-other}
 use Rattle.field.specs.Base.{p}
-use Rattle.field.specs.Ext.{limb, Limbs}
-use Rattle.field.specs.Tower.{Tower, goldilocks}
-use Rattle.field.proofs.ExtLaws.{limbs-near, kept-limbs}
+use Rattle.extension.specs.Ext.{limb, Limbs}
+use Rattle.extension.specs.Tower.{Tower, goldilocks}
+use Rattle.extension.proofs.ExtLaws.{limbs-near, kept-limbs}
 use Rattle.ir.specs.Words.{nodeAt}
 use Rattle.values.specs.declared.frame.Strides.{Strides}
 use Rattle.values.specs.Values.{Value, base, ext, classOf, Leaves, nodeValue, values}

@@ -11,10 +11,10 @@ use Rattle.ir.specs.Words.{mainOf}
 use Rattle.laws.specs.Lists.{block}
 use Rattle.laws.proofs.Cases.{by-test}
 use Rattle.field.specs.Base.{p, _≈_, Is, Least, minus}
-use Rattle.field.specs.Ext.{limb, sums, minuses, embedded, product, Near, Limbs, LeastLimbs}
-use Rattle.field.specs.Tower.{goldilocks, remainders}
+use Rattle.extension.specs.Ext.{limb, sums, minuses, embedded, product, Near, Limbs, LeastLimbs}
+use Rattle.extension.specs.Tower.{goldilocks, remainders}
 use Rattle.field.proofs.Laws.{refl≈, sym≈, _then_, reduced, add≈, mul≈, minus≈, stands, least-stands, zero-is}
-use Rattle.field.proofs.ExtLaws.{near-refl, near-sym, near-trans, limbs-of, limbs-stand, least-limbs, limbs-near, sums-near, minuses-near, product-near, embedded-near, remainders-near, limb-embedded}
+use Rattle.extension.proofs.ExtLaws.{near-refl, near-sym, near-trans, limbs-of, limbs-stand, least-limbs, limbs-near, sums-near, minuses-near, product-near, embedded-near, remainders-near, limb-embedded}
 use Rattle.values.specs.Values.{Value, base, ext, binop, unop}
 use Rattle.values.specs.Frame.{triple, MainIn}
 use Rattle.values.specs.Room.{Stands, ValueIs}

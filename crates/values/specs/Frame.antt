@@ -8,7 +8,7 @@ use lib.Dec.{eqb, leb, ltb}
 use lib.ListN.{length, getD}
 use Rattle.laws.specs.Lists.{block}
 use Rattle.field.specs.Base.{p}
-use Rattle.field.specs.Tower.{remainders}
+use Rattle.extension.specs.Tower.{remainders}
 use Rattle.ir.specs.Words.{nodeAt, constBase, constExt, var, rapChallenge, alphaPow, tableOffset, mainOf, offsetOf}
 use Rattle.ir.specs.declared.program.Counts.{Counts}
 use Rattle.ir.specs.declared.frame.Shape.{Shape}

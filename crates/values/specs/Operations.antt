@@ -8,8 +8,8 @@ use lib.Dec.{eqb}
 use lib.ListN.{length, getD, drop}
 use Rattle.laws.specs.Lists.{block}
 use Rattle.field.specs.Base.{p, minus}
-use Rattle.field.specs.Ext.{sums, minuses, product}
-use Rattle.field.specs.Tower.{goldilocks}
+use Rattle.extension.specs.Ext.{sums, minuses, product}
+use Rattle.extension.specs.Tower.{goldilocks}
 use Rattle.ir.specs.Words.{nodeAt, add, sub, neg, embed}
 use Rattle.values.specs.declared.frame.Strides.{Strides}
 use Rattle.values.specs.Frame.{Lent, leaves, LeafIn}

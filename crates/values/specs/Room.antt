@@ -6,8 +6,8 @@ use Prim.Native.Nat.{ℕ, _*_, _<_}
 use lib.ListN.{length, getD, drop}
 use Rattle.laws.specs.Lists.{block}
 use Rattle.field.specs.Base.{p}
-use Rattle.field.specs.Ext.{Near, Limbs}
-use Rattle.field.specs.Tower.{goldilocks}
+use Rattle.extension.specs.Ext.{Near, Limbs}
+use Rattle.extension.specs.Tower.{goldilocks}
 use Rattle.values.specs.Values.{Value, classOf, toExt}
 
 -- a class and three limbs stand for a value

@@ -6,7 +6,7 @@ use mathlib.Core.List.{List}
 use Prim.Native.Nat.{ℕ, zero, suc}
 use lib.Dec.{eqb, ltb}
 use Rattle.laws.specs.Maps.{upd}
-use Rattle.field.specs.Tower.{Tower}
+use Rattle.extension.specs.Tower.{Tower}
 use Rattle.ir.specs.Words.{nodeAt, constBase, constExt, var, rapChallenge, alphaPow, add, sub, mul, neg, mainOf, offsetOf}
 
 -- a value: of the base or of the extension

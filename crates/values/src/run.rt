@@ -5,8 +5,8 @@ ghost use Prim.Native.Nat.{_+_, _*_, _≤_};
 ghost use lib.ListN.{length};
 ghost use lib.Seq.{sets};
 ghost use Rattle.laws.specs.Lists.{tabulate};
-ghost use Rattle.field.specs.Ext.{limb};
-ghost use Rattle.field.specs.Tower.{goldilocks};
+ghost use Rattle.extension.specs.Ext.{limb};
+ghost use Rattle.extension.specs.Tower.{goldilocks};
 ghost use Rattle.values.specs.Values.{values};
 ghost use Rattle.values.specs.Frame.{lent, leaves};
 ghost use Rattle.values.specs.Room.{RoomHolds};
@@ -15,7 +15,7 @@ use super::frame::Strides;
 use super::value::Value;
 use super::value::leaf;
 use super::value::operation;
-use field::extensions_goldilocks::Ext;
+use extension::extensions_goldilocks::Ext;
 use ir::node::OP_ADD;
 
 fn node_value(

@@ -19,7 +19,7 @@ use Rattle.device.specs.Blob.{isExt, slotOf, baseSlots, extSlots, tags, kinds}
 use Rattle.device.specs.Check.{Filled, slotIn, slotOfClass, operandOk, formOk, nodeOk}
 use Rattle.device.proofs.CheckLaws.{node-unknown, node-by}
 use Rattle.device.proofs.Theorem.{by-operation}
-use Rattle.walk.specs.Steps.{NodeLegal, instr, BaseLegal, ExtLegal, BaseGives, ExtGives, OperationGives, Uniforms}
+use Rattle.slots.specs.Steps.{NodeLegal, instr, BaseLegal, ExtLegal, BaseGives, ExtGives, OperationGives, Uniforms}
 
 -- what the check tells of an operation's operands
 pub record OperandsLegal (c : BlobCounts) (s : Shape) (op a b res : ℕ) : Type 0 where

@@ -22,10 +22,10 @@ use Rattle.laws.proofs.Options.{only-some}
 use Rattle.laws.proofs.Parts.{sets-here, sets-before, sets-after}
 use Rattle.laws.proofs.Tests.{clash, and-left, and-right}
 use Rattle.field.specs.Base.{p, _≈_, Is}
-use Rattle.field.specs.Ext.{limb, embedded, Near, Limbs}
-use Rattle.field.specs.Tower.{goldilocks, remainders}
+use Rattle.extension.specs.Ext.{limb, embedded, Near, Limbs}
+use Rattle.extension.specs.Tower.{goldilocks, remainders}
 use Rattle.field.proofs.Laws.{sym≈, equal, reduced, _then_}
-use Rattle.field.proofs.ExtLaws.{limbs-near, kept-limbs, near-trans, near-sym, remainders-near, limb-embedded}
+use Rattle.extension.proofs.ExtLaws.{limbs-near, kept-limbs, near-trans, near-sym, remainders-near, limb-embedded}
 use Rattle.values.specs.Values.{Value, base, ext, toExt}
 use Rattle.values.specs.Room.{ValueIs}
 use Rattle.values.proofs.OperationLaws.{base-word}
@@ -33,8 +33,8 @@ use Rattle.device.specs.declared.blob.BlobCounts.{BlobCounts}
 use Rattle.device.specs.Blob.{baseSlots, extSlots, isExt, slotOf}
 use Rattle.device.specs.StepRule.{Slots, put}
 use Rattle.device.proofs.Exact.{not-held}
-use Rattle.walk.specs.Slots.{extWord, slotWords, limbsAt}
-use Rattle.walk.specs.Steps.{Holds, stored, RoomKept}
+use Rattle.slots.specs.Slots.{extWord, slotWords, limbsAt}
+use Rattle.slots.specs.Steps.{Holds, stored, RoomKept}
 
 -- ---- words in a row
 

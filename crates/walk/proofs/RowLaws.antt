@@ -10,15 +10,15 @@ use lib.ListN.{length, getD}
 use Rattle.laws.specs.Options.{after}
 use Rattle.laws.proofs.Folds.{none-some}
 use Rattle.laws.proofs.Options.{after-some}
-use Rattle.field.specs.Tower.{goldilocks}
+use Rattle.extension.specs.Tower.{goldilocks}
 use Rattle.ir.specs.declared.frame.Shape.{Shape}
 use Rattle.values.specs.Frame.{Lent}
 use Rattle.device.specs.declared.blob.BlobCounts.{BlobCounts}
 use Rattle.device.specs.Blob.{Instr, instrAt, tags, kinds}
 use Rattle.device.specs.StepRule.{Slots, valueOf, put, step, slotsAfter}
-use Rattle.walk.specs.Slots.{slotWords}
-use Rattle.walk.specs.Trace.{contents}
-use Rattle.walk.specs.Steps.{Holds, Uniforms, Cells, LeafGives, OperationGives, NodeGives, RoomKept, StepStores, RowWalked, instr}
+use Rattle.slots.specs.Slots.{slotWords}
+use Rattle.slots.specs.Trace.{contents}
+use Rattle.slots.specs.Steps.{Holds, Uniforms, Cells, LeafGives, OperationGives, NodeGives, RoomKept, StepStores, RowWalked, instr}
 use Rattle.walk.proofs.RoomLaws.{kept-put, stored-long}
 
 -- ---- a node's value

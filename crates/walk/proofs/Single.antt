@@ -11,7 +11,7 @@ use lib.Seq.{ext-getD, getD-take, getD-drop}
 use borrow.Author.Tests.{ltb-true, ltb-false}
 use Rattle.laws.proofs.Cases.{by-test}
 use Rattle.field.specs.Base.{p, _≈_}
-use Rattle.field.specs.Ext.{limb}
+use Rattle.extension.specs.Ext.{limb}
 use Rattle.ir.specs.declared.frame.Shape.{Shape}
 use Rattle.ir.specs.declared.refusal.Outcome.{Outcome}
 use Rattle.ir.specs.Refusals.{inOrder, anyHolds}
@@ -22,7 +22,7 @@ use Rattle.device.specs.declared.blob.BlobCounts.{BlobCounts}
 use Rattle.device.specs.Blob.{Blob, baseSlots, extSlots}
 use Rattle.device.specs.StepRule.{Slots}
 use Rattle.device.specs.Check.{blobOrder}
-use Rattle.walk.specs.Slots.{extWord, slotWords, limbsAt, SlotsEnd}
+use Rattle.slots.specs.Slots.{extWord, slotWords, limbsAt, SlotsEnd}
 use Rattle.walk.specs.Walk.{walkRows, WalkAnswer}
 
 -- a limb of an extension slot is a word of the room

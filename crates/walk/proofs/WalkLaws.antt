@@ -19,10 +19,10 @@ use Rattle.laws.proofs.Options.{present}
 use Rattle.laws.proofs.Parts.{three-words}
 use Rattle.laws.proofs.Tests.{clash, or-left, or-right, not-not}
 use Rattle.field.specs.Base.{p, _≈_}
-use Rattle.field.specs.Ext.{limb, Near}
-use Rattle.field.specs.Tower.{goldilocks}
+use Rattle.extension.specs.Ext.{limb, Near}
+use Rattle.extension.specs.Tower.{goldilocks}
 use Rattle.field.proofs.Laws.{refl≈, equal}
-use Rattle.field.proofs.ExtLaws.{near-refl}
+use Rattle.extension.proofs.ExtLaws.{near-refl}
 use Rattle.ir.specs.declared.frame.Shape.{Shape}
 use Rattle.ir.specs.declared.refusal.Outcome.{Outcome}
 use Rattle.ir.specs.declared.refusal.Outcome.the-variants.{Done, Refused}
@@ -34,7 +34,7 @@ use Rattle.ir.proofs.RefusalLaws.{not-found, numbered, done-rows, loud-rows, fi
 use Rattle.values.specs.Values.{Value}
 use Rattle.values.specs.Frame.{Lent}
 use Rattle.interp.proofs.AnswerLaws.{any-append}
-use Rattle.interp.proofs.RefuseLaws.{cells-small}
+use Rattle.evaluation.proofs.RefuseLaws.{cells-small}
 use Rattle.device.specs.declared.blob.BlobCounts.{BlobCounts}
 use Rattle.device.specs.Blob.{Blob, numBase, baseSlots, extSlots, tags, kinds, instrAt, isExt, slotOf}
 use Rattle.device.specs.StepRule.{Contents, Slots, slotsAfter, rootHeld}
@@ -44,10 +44,10 @@ use Rattle.device.proofs.Exact.{Through, through, root-stops}
 use Rattle.device.proofs.CallLaws.{LongEnough, long-enough}
 use Rattle.device.proofs.MarkLaws.{badNode, cleared-rest, cleared-long}
 use Rattle.walk.specs.declared.walk.FrameLengths.{FrameLengths}
-use Rattle.walk.specs.Slots.{extWord, slotWords, limbsAt, heldWord, heldLimbs, SlotsEnd}
-use Rattle.walk.specs.Trace.{contents}
+use Rattle.slots.specs.Slots.{extWord, slotWords, limbsAt, heldWord, heldLimbs, SlotsEnd}
+use Rattle.slots.specs.Trace.{contents}
 use Rattle.walk.specs.Walk.{shortFrame, shortWalk, shortEvals, roomRows, memoryRows, walkRows, frameLengths, valueOr, finalSlots, rootValues, WalkAnswer}
-use Rattle.walk.specs.Steps.{NodesLegal, UniformsLong, TraceLong, LentLong, RootLegal, RootPlace, RootsReady, RoomKept, RowWalked, RootsWritten, RowReady, RowDone, FrameWalked}
+use Rattle.slots.specs.Steps.{NodesLegal, UniformsLong, TraceLong, LentLong, RootLegal, RootPlace, RootsReady, RoomKept, RowWalked, RootsWritten, RowReady, RowDone, FrameWalked}
 
 -- a blob from what was lent
 abbrev pub blobOf : BlobCounts → List ℕ → List ℕ → Blob

@@ -7,16 +7,16 @@ use mathlib.Core.Path.{_≡_, refl}
 use Prim.Native.Nat.{ℕ}
 use Rattle.laws.specs.Folds.{lowest}
 use Rattle.laws.specs.Maps.{upd}
-use Rattle.field.specs.Ext.{sums, minuses, embedded, product}
-use Rattle.field.specs.Tower.{goldilocks, remainders}
+use Rattle.extension.specs.Ext.{sums, minuses, embedded, product}
+use Rattle.extension.specs.Tower.{goldilocks, remainders}
 use Rattle.ir.specs.Shape.{overShape}
 use Rattle.ir.specs.Refusals.{Said, first, gives}
 use Rattle.interp.specs.ExampleE.{shape, frame}
 use Rattle.device.specs.Blob.{Blob, tags, kinds}
 use Rattle.device.specs.StepRule.{Slots, baseOperand, extOperand, step, slotsAfter}
 use Rattle.device.specs.Check.{operandOk, cellOk, nodeOk, filledAfter, illegal, extRoot, shortCheck, checkRows}
-use Rattle.walk.specs.Slots.{heldWord, heldLimbs}
-use Rattle.walk.specs.Trace.{contents}
+use Rattle.slots.specs.Slots.{heldWord, heldLimbs}
+use Rattle.slots.specs.Trace.{contents}
 use Rattle.walk.specs.Walk.{slotsOr}
 
 -- the listing of document 01: seven nodes, two constants, two roots, num_base 1, two base slots and one extension slot

@@ -7,7 +7,7 @@ use mathlib.Core.Path.{_≡_}
 use Prim.Native.Nat.{ℕ, _+_, _*_, min}
 use lib.Dec.{ltb}
 use lib.ListN.{length}
-use Rattle.field.specs.Tower.{goldilocks}
+use Rattle.extension.specs.Tower.{goldilocks}
 use Rattle.ir.specs.declared.frame.Shape.{Shape}
 use Rattle.ir.specs.declared.refusal.Outcome.{Outcome}
 use Rattle.ir.specs.Shape.{overShape}
@@ -15,14 +15,14 @@ use Rattle.ir.specs.Refusals.{Said, Row, row, first, anyHolds, gives, saidOfOut
 use Rattle.values.specs.Values.{Value}
 use Rattle.values.specs.Values as Values
 use Rattle.values.specs.Frame.{Lent}
-use Rattle.interp.specs.Evals.{baseEvals, extEvals}
+use Rattle.evaluation.specs.Evals.{baseEvals, extEvals}
 use Rattle.device.specs.declared.blob.BlobCounts.{BlobCounts}
 use Rattle.device.specs.Blob.{Blob, baseSlots, extSlots, numBase, tags, kinds}
 use Rattle.device.specs.StepRule.{Contents, Slots, slotsAfter, rootHeld}
 use Rattle.device.specs.Check.{shortCheck, legalRows, slotCount, cleared}
 use Rattle.walk.specs.declared.walk.FrameLengths.{FrameLengths}
-use Rattle.walk.specs.Slots.{slotWords, SlotsEnd}
-use Rattle.walk.specs.Trace.{contents}
+use Rattle.slots.specs.Slots.{slotWords, SlotsEnd}
+use Rattle.slots.specs.Trace.{contents}
 
 -- ---- refusals
 

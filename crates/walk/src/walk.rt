@@ -8,19 +8,19 @@ ghost use Rattle.ir.specs.Shape.{overShape};
 ghost use Rattle.ir.specs.Refusals.{saidOfOutcome, first, gives};
 ghost use Rattle.values.specs.Frame.{lent};
 ghost use Rattle.device.specs.Check.{cleared};
-ghost use Rattle.walk.specs.Steps.{RowReady, RowDone, FrameWalked};
+ghost use Rattle.slots.specs.Steps.{RowReady, RowDone, FrameWalked};
 ghost use Rattle.walk.specs.Walk.{shortFrame, shortEvals, shortWalk, roomRows, WalkAnswer};
-use super::cell::Row;
-use super::evals::write_roots;
 use super::row::walk_nodes;
 use device::blob::BlobCounts;
 use device::check::legal_refusal;
 use device::check::short_check;
-use field::extensions_goldilocks::Ext;
+use extension::extensions_goldilocks::Ext;
 use ir::frame::Shape;
 use ir::frame::over_shape;
 use ir::refusal::Outcome;
 use ir::refusal::Refusal;
+use slots::cell::Row;
+use slots::evals::write_roots;
 
 // How many words of constants, cells and uniforms are lent.
 pub struct FrameLengths {

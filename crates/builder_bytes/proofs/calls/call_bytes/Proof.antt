@@ -1,11 +1,11 @@
 -- `call_bytes` meets its contract.
 -- Assumes nothing.
 use borrow.Author.Needs.{needs}
-use Rattle.builder_bytes.proofs.RoomLaws.{still-roomy, after-roomy}
+use Rattle.byte_words.proofs.RoomLaws.{still-roomy, after-roomy}
 use Rattle.builder_bytes.proofs.PromiseLaws.{gives-short, first-fits, second-fits, gives-done}
-use Rattle.bytewise.proofs.AnswerLaws.{front-long}
-use Rattle.builder_bytes.specs.Rooms.{lent}
-use Rattle.builder.specs.Calls.{callOf}
+use Rattle.byte_words.proofs.WordLaws.{front-long}
+use Rattle.byte_words.specs.Rooms.{lent}
+use Rattle.builder_call.specs.CallData.{callOf}
 use Rattle.node_table.specs.Hashing.{startOf}
 use Rattle.builder_bytes.proofs.calls.call_bytes.Statement.{statement}
 use Rattle.builder_bytes.proofs.calls.call_bytes.Tie as tie

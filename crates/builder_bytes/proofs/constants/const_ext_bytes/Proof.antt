@@ -1,10 +1,10 @@
 -- `const_ext_bytes` meets its contract.
 -- Assumes nothing.
 use borrow.Author.Needs.{needs}
-use Rattle.builder_bytes.proofs.RoomLaws.{still-roomy, after-roomy, after-long}
+use Rattle.byte_words.proofs.RoomLaws.{still-roomy, after-roomy, after-long}
 use Rattle.builder_bytes.proofs.PromiseLaws.{first-fits, second-fits, wide-fits, interns-short, consts-short, interns-done}
-use Rattle.bytewise.proofs.AnswerLaws.{front-long}
-use Rattle.builder_bytes.specs.Rooms.{lent}
+use Rattle.byte_words.proofs.WordLaws.{front-long}
+use Rattle.byte_words.specs.Rooms.{lent}
 use Rattle.node_table.specs.Hashing.{startOf}
 use Rattle.builder.specs.Consts.{constExtOf, withExts}
 use Rattle.node_table.specs.Table.{table}

@@ -1,10 +1,10 @@
 -- `emit_bytes` meets its contract.
 -- Assumes nothing.
 use borrow.Author.Needs.{needs}
-use Rattle.builder_bytes.proofs.RoomLaws.{still-roomy, after-roomy}
+use Rattle.byte_words.proofs.RoomLaws.{still-roomy, after-roomy}
 use Rattle.builder_bytes.proofs.PromiseLaws.{first-fits, second-fits, emit-short, emit-done}
-use Rattle.bytewise.proofs.AnswerLaws.{front-long}
-use Rattle.builder_bytes.specs.Rooms.{lent}
+use Rattle.byte_words.proofs.WordLaws.{front-long}
+use Rattle.byte_words.specs.Rooms.{lent}
 use Rattle.builder.specs.Roots.{emitOf}
 use Rattle.builder_bytes.proofs.roots.emit_bytes.Statement.{statement}
 use Rattle.builder_bytes.proofs.roots.emit_bytes.Tie as tie

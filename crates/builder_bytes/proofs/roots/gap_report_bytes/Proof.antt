@@ -1,10 +1,10 @@
 -- `gap_report_bytes` meets its contract.
 -- Assumes nothing.
 use borrow.Author.Needs.{needs}
-use Rattle.builder_bytes.proofs.RoomLaws.{still-roomy, after-roomy}
+use Rattle.byte_words.proofs.RoomLaws.{still-roomy, after-roomy}
 use Rattle.builder_bytes.proofs.PromiseLaws.{report-first-fits, report-second-fits, gaps-short, gaps-done}
-use Rattle.bytewise.proofs.AnswerLaws.{front-long}
-use Rattle.builder_bytes.specs.Rooms.{lent}
+use Rattle.byte_words.proofs.WordLaws.{front-long}
+use Rattle.byte_words.specs.Rooms.{lent}
 use Rattle.builder_bytes.proofs.roots.gap_report_bytes.Statement.{statement}
 use Rattle.builder_bytes.proofs.roots.gap_report_bytes.Tie as tie
 

@@ -1,5 +1,7 @@
 use Rattle.bytewise.specs.Lowering.{wordsOf}
-use Rattle.bytewise.proofs.AnswerLaws.{as-long, roomy, still-roomy, front-long, lower-short, lower-done}
+use Rattle.bytewise.proofs.AnswerLaws.{roomy, still-roomy, lower-short, lower-done}
+use Rattle.byte_words.proofs.ReadingLaws.{as-long}
+use Rattle.byte_words.proofs.WordLaws.{front-long}
 use Rattle.stored.specs.Form.{Tables}
 use native.Mathlib.Omega.{arith}
 use mathlib.Core.Path.{sym, _∙_}

@@ -3,8 +3,8 @@ use Rattle.bytewise.proofs.lowering.unpack_tables.Statement.{statement}
 use Rattle.bytewise.proofs.lowering.unpack_tables.Tie as tie
 use Rattle.bytewise.proofs.lowering.unpack_tables.Reads as reads
 use Rattle.bytewise.proofs.lowering.unpack_tables.Lts as lts
-use Rattle.bytewise.proofs.words.unpack32.Reads as unpack32-reads
-use Rattle.bytewise.proofs.words.unpack64.Reads as unpack64-reads
+use Rattle.byte_words.proofs.words.unpack32.Reads as unpack32-reads
+use Rattle.byte_words.proofs.words.unpack64.Reads as unpack64-reads
 
 -- src/lowering.rt:52:5
 unpack32-requires : tie.Need-unpack32-requires

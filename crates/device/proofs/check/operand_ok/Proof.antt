@@ -1,9 +1,8 @@
-use Rattle.device.proofs.CheckLaws.{operand-by, operand-unknown}
+use Rattle.device.proofs.CheckLaws.{operand-by, operand-unknown, not-seven}
 use mathlib.Core.Path.{sym, _∙_}
 use native.Mathlib.Nat.{zero-add}
 use native.Mathlib.Omega.{arith}
 use Prim.Native.Nat.{_≤_}
-use Rattle.device.proofs.CheckLaws.{not-seven}
 use borrow.Author.Needs.{needs}
 use Rattle.device.proofs.check.operand_ok.Statement.{statement}
 use Rattle.device.proofs.check.operand_ok.Tie as tie

@@ -4,9 +4,9 @@ use Rattle.host.proofs.blob_calls.cir_check_blob.Tie as tie
 use Rattle.host.proofs.blob_calls.cir_check_blob.Reads as reads
 use Rattle.host.proofs.blob_calls.cir_check_blob.Lts as lts
 use Rattle.device.proofs.check.check_blob.Reads as check-blob-reads
-use Rattle.host.proofs.blob_calls.blob_counts_of.Reads as blob-counts-of-reads
+use Rattle.host_answer.proofs.numbers.blob_counts_of.Reads as blob-counts-of-reads
 use Rattle.host_answer.proofs.answer.coded_outcome.Reads as coded-outcome-reads
-use Rattle.host.proofs.program_calls.shape_of.Reads as shape-of-reads
+use Rattle.host_answer.proofs.numbers.shape_of.Reads as shape-of-reads
 
 -- src/blob_calls.rt:51:9
 blob-counts-of-requires : tie.Need-blob-counts-of-requires

@@ -3,10 +3,10 @@ use Rattle.host.proofs.blob_calls.cir_walk.Statement.{statement}
 use Rattle.host.proofs.blob_calls.cir_walk.Tie as tie
 use Rattle.host.proofs.blob_calls.cir_walk.Reads as reads
 use Rattle.host.proofs.blob_calls.cir_walk.Lts as lts
-use Rattle.host.proofs.blob_calls.blob_counts_of.Reads as blob-counts-of-reads
+use Rattle.host_answer.proofs.numbers.blob_counts_of.Reads as blob-counts-of-reads
 use Rattle.host_answer.proofs.answer.coded_outcome.Reads as coded-outcome-reads
 use Rattle.host_answer.proofs.answer.ext_of.Reads as ext-of-reads
-use Rattle.host.proofs.program_calls.shape_of.Reads as shape-of-reads
+use Rattle.host_answer.proofs.numbers.shape_of.Reads as shape-of-reads
 use Rattle.walk.proofs.walk.walk.Reads as walk-reads
 
 -- src/blob_calls.rt:89:9

@@ -5,7 +5,7 @@ use Rattle.host.proofs.lower_calls.cir_lower.Tie as tie
 use Rattle.host.proofs.lower_calls.cir_lower.Reads as reads
 use Rattle.host.proofs.lower_calls.cir_lower.Lts as lts
 use Rattle.host_answer.proofs.answer.coded_refusal.Reads as coded-refusal-reads
-use Rattle.host.proofs.program_calls.counts_of.Reads as counts-of-reads
+use Rattle.host_answer.proofs.numbers.counts_of.Reads as counts-of-reads
 use Rattle.lower.proofs.lower.lower.Reads as lower-reads
 
 -- src/lower_calls.rt:38:9

@@ -1,7 +1,7 @@
 -- `eval_in_steps` meets its contract.
 -- Assumes nothing.
 use Rattle.interp.proofs.AnswerLaws.{answer-refused, answer-done, prover-ok, prover-asked}
-use Rattle.interp.specs.Evaluation.{proverRows, lengths}
+use Rattle.evaluation.specs.Evaluation.{proverRows, lengths}
 use Rattle.values.specs.Frame.{lent, frameLimits}
 use Rattle.ir.proofs.RefusalLaws.{done-rows}
 use lib.ListN.{length}

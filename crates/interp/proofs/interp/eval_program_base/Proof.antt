@@ -1,7 +1,7 @@
 -- `eval_program_base` meets its contract.
 -- Assumes nothing.
 use Rattle.interp.proofs.AnswerLaws.{row-refused, row-done, row-ok}
-use Rattle.interp.specs.Evaluation.{rowRows, lengths}
+use Rattle.evaluation.specs.Evaluation.{rowRows, lengths}
 use Rattle.values.specs.Frame.{rowLent, rowLimits}
 use Rattle.ir.proofs.RefusalLaws.{done-rows}
 use native.Mathlib.Omega.{arith}

@@ -1,7 +1,7 @@
 -- `eval_program_verifier` meets its contract.
 -- Assumes nothing.
 use Rattle.interp.proofs.AnswerLaws.{verifier-refused, verifier-done, verifier-asked}
-use Rattle.interp.specs.Evaluation.{verifierRows, lengths}
+use Rattle.evaluation.specs.Evaluation.{verifierRows, lengths}
 use Rattle.values.specs.Frame.{lent, frameLimits}
 use Rattle.ir.proofs.RefusalLaws.{done-rows}
 use lib.ListN.{length}

@@ -1,6 +1,6 @@
 -- `evaluate` meets its contract.
 -- Assumes nothing.
-use Rattle.interp.proofs.EvalLaws.{completes}
+use Rattle.evaluation.proofs.EvalLaws.{completes}
 use borrow.Author.Needs.{needs}
 use Rattle.interp.proofs.interp.evaluate.Statement.{statement}
 use Rattle.interp.proofs.interp.evaluate.Tie as tie

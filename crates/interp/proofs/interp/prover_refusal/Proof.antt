@@ -1,7 +1,7 @@
 -- `prover_refusal` meets its contract.
 -- Assumes nothing.
 use Rattle.interp.proofs.OutcomeLaws.{memory-refused, memory-on, tables-ok}
-use Rattle.interp.specs.Evaluation.{proverRest}
+use Rattle.evaluation.specs.Evaluation.{proverRest}
 use Rattle.values.specs.Frame.{frameLimits}
 use mathlib.Core.Path.{sym, _∙_}
 use mathlib.Core.List.{[]}

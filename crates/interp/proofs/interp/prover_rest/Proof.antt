@@ -1,7 +1,7 @@
 -- `prover_rest` meets its contract: each return has the rows that led there.
 -- Assumes nothing.
 use Rattle.interp.proofs.OutcomeLaws.{form-refused, form-passed, form-on}
-use Rattle.interp.specs.Evaluation.{extRoot}
+use Rattle.evaluation.specs.Evaluation.{extRoot}
 use Rattle.values.specs.Frame.{frameLimits}
 use Rattle.ir.specs.Refusals.{Row, rowAt}
 use mathlib.Core.Path.{_≡_, refl}

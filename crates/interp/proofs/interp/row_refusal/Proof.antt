@@ -1,7 +1,7 @@
 -- `row_refusal` meets its contract.
 -- Assumes nothing.
 use Rattle.interp.proofs.OutcomeLaws.{memory-refused, memory-on, tables-ok}
-use Rattle.interp.specs.Evaluation.{rowShape, rowRest}
+use Rattle.evaluation.specs.Evaluation.{rowShape, rowRest}
 use Rattle.values.specs.Frame.{rowLimits}
 use mathlib.Core.Path.{sym, _∙_}
 use mathlib.Core.List.{[]}

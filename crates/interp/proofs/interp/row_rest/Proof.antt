@@ -1,7 +1,7 @@
 -- `row_rest` meets its contract: each return has the rows that led there.
 -- Assumes nothing.
 use Rattle.interp.proofs.OutcomeLaws.{form-refused, form-passed, form-on}
-use Rattle.interp.specs.Evaluation.{askedRow}
+use Rattle.evaluation.specs.Evaluation.{askedRow}
 use Rattle.values.specs.Frame.{rowLimits}
 use borrow.Author.Tests.{le-leb, lt-leb}
 use native.Mathlib.Omega.{arith}

@@ -1,7 +1,7 @@
 -- `sufficient` meets its contract.
 -- Assumes nothing.
 use Rattle.interp.proofs.OutcomeLaws.{tables-ok}
-use Rattle.interp.specs.Evaluation.{memoryRows}
+use Rattle.evaluation.specs.Evaluation.{memoryRows}
 use Rattle.ir.proofs.RefusalLaws.{done-rows}
 use Rattle.laws.proofs.Tests.{clash}
 use mathlib.Core.List.{[]}

@@ -1,6 +1,6 @@
 use Rattle.ir.specs.Refusals.{placeOf}
 use Rattle.lower.proofs.AnswerLaws.{refused, lists-are, lower-ok, answered}
-use Rattle.lower.specs.Answer.{shortLists, lowerSaid}
+use Rattle.lower_parts.specs.Answer.{shortLists, lowerSaid}
 use Rattle.ir.proofs.ProgramLaws.{few, long}
 use lib.Seq.{length-take-le}
 use mathlib.Core.Path.{_≡_, refl, sym, ap, _∙_}
@@ -15,7 +15,7 @@ use Rattle.ir.proofs.program.short_tables.Reads as short-tables-reads
 use Rattle.ir.proofs.program.too_many_nodes.Reads as too-many-nodes-reads
 use Rattle.ir.proofs.program.too_many_roots.Reads as too-many-roots-reads
 use Rattle.lower.proofs.lower.lower_words.Reads as lower-words-reads
-use Rattle.lower.proofs.lower.short_lists.Reads as short-lists-reads
+use Rattle.lower_parts.proofs.parts.short_lists.Reads as short-lists-reads
 
 -- src/lower.rt:262:8
 too-many-nodes-requires : tie.Need-too-many-nodes-requires

@@ -1,5 +1,4 @@
-use Rattle.lower.proofs.EndLaws.{emptied-keeps, made-few}
-use Rattle.lower.proofs.EndLaws.{Exact, exact, exact-live, lists-long, live-ok, write-ok, short-is, refused, done}
+use Rattle.lower.proofs.EndLaws.{emptied-keeps, made-few, Exact, exact, exact-live, lists-long, live-ok, write-ok, short-is, refused, done}
 use mathlib.Core.Path.{_≡_, refl, sym, _∙_}
 use native.Mathlib.Omega.{arith}
 use borrow.Author.Needs.{needs}
@@ -7,11 +6,11 @@ use Rattle.lower.proofs.lower.lower_words.Statement.{statement}
 use Rattle.lower.proofs.lower.lower_words.Tie as tie
 use Rattle.lower.proofs.lower.lower_words.Reads as reads
 use Rattle.lower.proofs.lower.lower_words.Lts as lts
-use Rattle.scan.proofs.liveness.mark_live.Reads as mark-live-reads
-use Rattle.lower.proofs.lower.clear_lists.Reads as clear-lists-reads
-use Rattle.lower.proofs.lower.counts_of.Reads as counts-of-reads
-use Rattle.lower.proofs.lower.short_output.Reads as short-output-reads
-use Rattle.lower.proofs.lower.write_blob.Reads as write-blob-reads
+use Rattle.liveness.proofs.liveness.mark_live.Reads as mark-live-reads
+use Rattle.lower_parts.proofs.parts.clear_lists.Reads as clear-lists-reads
+use Rattle.lower_parts.proofs.parts.counts_of.Reads as counts-of-reads
+use Rattle.lower_parts.proofs.parts.short_output.Reads as short-output-reads
+use Rattle.lower_parts.proofs.parts.write_blob.Reads as write-blob-reads
 
 -- src/lower.rt:203:5
 clear-lists-requires : tie.Need-clear-lists-requires

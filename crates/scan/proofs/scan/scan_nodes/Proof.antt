@@ -1,10 +1,9 @@
-use mathlib.Core.Path.{refl, _∙_}
+use mathlib.Core.Path.{refl, _∙_, _≡_}
 use Rattle.scan.proofs.ReadyLaws.{begins, ready, scanned-more, out-long}
 use Rattle.scan.specs.Arrays.{Scanned}
 use borrow.Author.Needs.{needs}
 use native.Mathlib.Omega.{arith}
 use lib.ListN.{length}
-use mathlib.Core.Path.{_≡_}
 use Prim.Native.Nat.{_≤_, _-_}
 use Rattle.scan.proofs.scan.scan_nodes.Statement.{statement}
 use Rattle.scan.proofs.scan.scan_nodes.Tie as tie

@@ -1,8 +1,8 @@
 -- `pass` meets its contract: the nodes below i passed, and have their values in the room.
 -- Assumes nothing.
-use Rattle.trial.proofs.StepLaws.{StepsPassed, standing, steps-more, steps-all}
+use Rattle.trial_parts.proofs.StepLaws.{StepsPassed, standing, steps-more, steps-all}
 use Rattle.values.specs.Frame.{lent}
-use Rattle.trial.specs.Trial.{NodeFits}
+use Rattle.trial_parts.specs.Trial.{NodeFits}
 use Rattle.ir.specs.Words.{nodeAt}
 use Rattle.laws.proofs.Blocks.{blocks-none}
 use Rattle.laws.proofs.Tests.{clash}

@@ -1,7 +1,7 @@
 -- `step` meets its contract.
 -- Assumes nothing.
-use Rattle.trial.proofs.TrialLaws.{leaf-passed, operation-passed}
-use Rattle.trial.proofs.StepLaws.{operation-fits}
+use Rattle.trial_parts.proofs.TrialLaws.{leaf-passed, operation-passed}
+use Rattle.trial_parts.proofs.StepLaws.{operation-fits}
 use Rattle.values.proofs.OperationLaws.{leaf-computes, operation-computes}
 use native.Mathlib.Omega.{arith}
 use borrow.Author.Needs.{needs}

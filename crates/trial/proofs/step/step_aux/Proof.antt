@@ -1,8 +1,8 @@
 -- `step_aux` meets its contract.
 -- Assumes nothing.
-use Rattle.trial.proofs.TrialLaws.{aux-fits}
+use Rattle.trial_parts.proofs.TrialLaws.{aux-fits}
 use Rattle.values.proofs.ValueLaws.{aux-mark}
-use Rattle.trial.proofs.StepLaws.{ext-class}
+use Rattle.trial_parts.proofs.StepLaws.{ext-class}
 use Rattle.laws.proofs.Tests.{clash}
 use native.Mathlib.Omega.{arith}
 use mathlib.Core.Path.{refl}

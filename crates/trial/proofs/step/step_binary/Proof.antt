@@ -1,6 +1,6 @@
 -- `step_binary` meets its contract.
 -- Assumes nothing.
-use Rattle.trial.proofs.StepLaws.{zero-words, base-ok, ext-ok, low-limbs}
+use Rattle.trial_parts.proofs.StepLaws.{zero-words, base-ok, ext-ok, low-limbs}
 use Rattle.values.proofs.OperationLaws.{binary-base, binary-ext}
 use Rattle.laws.proofs.Tests.{clash}
 use native.Mathlib.Omega.{arith}

@@ -1,6 +1,6 @@
 -- `step_const` meets its contract.
 -- Assumes nothing.
-use Rattle.trial.proofs.TrialLaws.{const-fits}
+use Rattle.trial_parts.proofs.TrialLaws.{const-fits}
 use Rattle.values.proofs.ValueLaws.{base-is}
 use Rattle.field.proofs.Laws.{reduced, least-stands}
 use Rattle.laws.proofs.Tests.{clash}

@@ -1,8 +1,8 @@
 -- `step_entry` meets its contract.
 -- Assumes nothing.
-use Rattle.trial.proofs.TrialLaws.{ext-fits}
-use Rattle.trial.proofs.StepLaws.{ext-class, entry-in}
-use Rattle.trial.specs.Trial.{leafLimit}
+use Rattle.trial_parts.proofs.TrialLaws.{ext-fits}
+use Rattle.trial_parts.proofs.StepLaws.{ext-class, entry-in}
+use Rattle.trial_parts.specs.Trial.{leafLimit}
 use Prim.Native.Nat.{_<_}
 use Rattle.laws.proofs.Tests.{clash}
 use mathlib.Core.Path.{refl}

@@ -2,7 +2,7 @@
 -- Assumes nothing.
 use Rattle.values.specs.Values.{leafValue}
 use Rattle.values.specs.Frame.{lent}
-use Rattle.trial.proofs.StepLaws.{leaf-entry}
+use Rattle.trial_parts.proofs.StepLaws.{leaf-entry}
 use Rattle.laws.proofs.Tests.{clash}
 use mathlib.Core.Path.{refl}
 use borrow.Author.Needs.{needs}

@@ -1,6 +1,6 @@
 -- `step_main` meets its contract.
 -- Assumes nothing.
-use Rattle.trial.proofs.TrialLaws.{main-fits}
+use Rattle.trial_parts.proofs.TrialLaws.{main-fits}
 use Rattle.values.proofs.ValueLaws.{base-is, main-mark}
 use Rattle.field.proofs.Laws.{reduced, least-stands}
 use Rattle.laws.proofs.Tests.{clash}

@@ -1,6 +1,6 @@
 -- `step_unary` meets its contract.
 -- Assumes nothing.
-use Rattle.trial.proofs.StepLaws.{neg-ok, embed-ok}
+use Rattle.trial_parts.proofs.StepLaws.{neg-ok, embed-ok}
 use Rattle.values.proofs.OperationLaws.{negation-base, negation-ext, embedding}
 use Rattle.laws.proofs.Tests.{clash}
 use native.Mathlib.Omega.{arith}

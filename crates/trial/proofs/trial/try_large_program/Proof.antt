@@ -1,6 +1,6 @@
 -- `try_large_program` meets its contract.
 -- Assumes nothing.
-use Rattle.trial.proofs.TrialLaws.{trial-kept}
+use Rattle.trial_parts.proofs.TrialLaws.{trial-kept}
 use borrow.Author.Needs.{needs}
 use Rattle.trial.proofs.trial.try_large_program.Statement.{statement}
 use Rattle.trial.proofs.trial.try_large_program.Tie as tie

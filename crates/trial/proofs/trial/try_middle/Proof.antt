@@ -1,6 +1,6 @@
 -- `try_middle` meets its contract: the copy is the last thing that is done.
 -- Assumes nothing.
-use Rattle.trial.proofs.TrialLaws.{trial-done, trial-kept, zeros}
+use Rattle.trial_parts.proofs.TrialLaws.{trial-done, trial-kept, zeros}
 use Rattle.values.specs.Frame.{lent}
 use borrow.Author.Tests.{not-false}
 use lib.ListN.{length-replicate}

@@ -1,4 +1,4 @@
-use Rattle.field.specs.Ext.{limb}
+use Rattle.extension.specs.Ext.{limb}
 use Rattle.laws.specs.Lists.{tabulate}
 use Prim.Native.Nat.{_*_}
 -- `store_value` meets its contract.

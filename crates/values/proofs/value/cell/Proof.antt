@@ -1,8 +1,7 @@
-use Rattle.values.proofs.ValueLaws.{main-mark, aux-mark}
+use Rattle.values.proofs.ValueLaws.{main-mark, aux-mark, main-below}
 -- `cell` meets its contract.
 -- Assumes nothing.
 use borrow.Author.Needs.{needs}
-use Rattle.values.proofs.ValueLaws.{main-below}
 use native.Mathlib.Omega.{arith}
 use Rattle.values.proofs.value.cell.Statement.{statement}
 use Rattle.values.proofs.value.cell.Tie as tie

@@ -1,7 +1,7 @@
 -- `offset_leaf` meets its contract: the remainders are kept.
 -- Assumes nothing.
 use Rattle.values.proofs.ValueLaws.{ext-is}
-use Rattle.field.proofs.ExtLaws.{least-limbs, limbs-stand, remainders-near}
+use Rattle.extension.proofs.ExtLaws.{least-limbs, limbs-stand, remainders-near}
 use borrow.Author.Needs.{needs}
 use Rattle.values.proofs.value.offset_leaf.Statement.{statement}
 use Rattle.values.proofs.value.offset_leaf.Tie as tie

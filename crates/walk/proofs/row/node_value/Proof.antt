@@ -1,12 +1,12 @@
 use borrow.Author.Needs.{needs}
 use Rattle.walk.proofs.RowLaws.{leaf-node, operation-node}
-use Rattle.walk.specs.Steps.{instr}
+use Rattle.slots.specs.Steps.{instr}
 use Rattle.values.specs.Frame.{lent}
 use Rattle.walk.proofs.row.node_value.Statement.{statement}
 use Rattle.walk.proofs.row.node_value.Tie as tie
 use Rattle.walk.proofs.row.node_value.Reads as reads
 use Rattle.walk.proofs.row.node_value.Lts as lts
-use Rattle.walk.proofs.leaf.leaf.Reads as leaf-reads
+use Rattle.slots.proofs.leaf.leaf.Reads as leaf-reads
 use Rattle.walk.proofs.row.operation.Reads as operation-reads
 
 -- src/row.rt:105:9

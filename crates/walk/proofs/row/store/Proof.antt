@@ -8,7 +8,7 @@ use Rattle.walk.proofs.row.store.Reads as reads
 use Rattle.walk.proofs.row.store.Lts as lts
 use Rattle.device.proofs.blob.is_ext.Reads as is-ext-reads
 use Rattle.device.proofs.blob.slot_of.Reads as slot-of-reads
-use Rattle.field.proofs.extensions_goldilocks.Ext.store.Reads as store-reads
+use Rattle.extension.proofs.extensions_goldilocks.Ext.store.Reads as store-reads
 
 -- src/row.rt:73:13
 slot-of-requires : tie.Need-slot-of-requires

@@ -5,7 +5,7 @@ use mathlib.Core.Path.{_≡_}
 use native.Mathlib.Omega.{arith}
 use borrow.Author.Needs.{needs}
 use Rattle.values.specs.Frame.{lent}
-use Rattle.walk.specs.Steps.{RowWalked}
+use Rattle.slots.specs.Steps.{RowWalked}
 use Rattle.walk.proofs.RowLaws.{walked-none, walked-more}
 use Rattle.walk.proofs.row.walk_nodes.Statement.{statement}
 use Rattle.walk.proofs.row.walk_nodes.Tie as tie

@@ -1,6 +1,6 @@
 use borrow.Author.Needs.{needs}
 use Rattle.walk.specs.Walk.{shortEvals}
-use Rattle.interp.proofs.RefuseLaws.{evals-mixed, evals-leading}
+use Rattle.evaluation.proofs.RefuseLaws.{evals-mixed, evals-leading}
 use borrow.Author.Tests.{lt-ltb, le-ltb}
 use Rattle.walk.proofs.walk.short_evals.Statement.{statement}
 use Rattle.walk.proofs.walk.short_evals.Tie as tie

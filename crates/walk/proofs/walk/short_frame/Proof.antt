@@ -1,6 +1,6 @@
 use borrow.Author.Needs.{needs}
 use Rattle.walk.specs.Walk.{shortFrame}
-use Rattle.interp.proofs.RefuseLaws.{cells-small}
+use Rattle.evaluation.proofs.RefuseLaws.{cells-small}
 use Rattle.ir.proofs.ProgramLaws.{within}
 use native.Mathlib.Omega.{arith}
 use borrow.Author.Tests.{lt-ltb, le-ltb}

@@ -1,5 +1,5 @@
 use borrow.Author.Needs.{needs}
-use Rattle.walk.specs.Slots.{slotWords}
+use Rattle.slots.specs.Slots.{slotWords}
 use Rattle.device.proofs.MarkLaws.{cleared-long}
 use Rattle.walk.proofs.walk.walk_frame.Statement.{statement}
 use Rattle.walk.proofs.walk.walk_frame.Tie as tie

@@ -5,7 +5,7 @@ use Rattle.walk.proofs.walk.walk_row.Statement.{statement}
 use Rattle.walk.proofs.walk.walk_row.Tie as tie
 use Rattle.walk.proofs.walk.walk_row.Reads as reads
 use Rattle.walk.proofs.walk.walk_row.Lts as lts
-use Rattle.walk.proofs.evals.write_roots.Reads as write-roots-reads
+use Rattle.slots.proofs.evals.write_roots.Reads as write-roots-reads
 use Rattle.walk.proofs.row.walk_nodes.Reads as walk-nodes-reads
 
 -- src/walk.rt:54:5

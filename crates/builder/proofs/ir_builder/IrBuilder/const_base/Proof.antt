@@ -3,20 +3,21 @@
 use native.Mathlib.Omega.{arith}
 use mathlib.Core.Path.{sym, ap, _∙_}
 use denote.Ref.{now}
-use Rattle.builder.specs.Consts.{sameBase, positionOf}
+use Rattle.const_table.specs.Positions.{sameBase, positionOf}
 use Rattle.builder.proofs.AnswerLaws.{long-nodes}
-use Rattle.builder.proofs.ConstLaws.{scan-most, new-space, kept-new, bases-counting, const-short, const-few, const-crowded, const-done}
+use Rattle.builder.proofs.ConstLaws.{bases-counting, const-short, const-few, const-crowded, const-done}
+use Rattle.const_table.proofs.PositionLaws.{scan-most, new-space, kept-new}
 use borrow.Author.Needs.{needs}
 use Rattle.builder.proofs.ir_builder.IrBuilder.const_base.Statement.{statement}
 use Rattle.builder.proofs.ir_builder.IrBuilder.const_base.Tie as tie
 use Rattle.builder.proofs.ir_builder.IrBuilder.const_base.Reads as reads
 use Rattle.builder.proofs.ir_builder.IrBuilder.const_base.Lts as lts
-use Rattle.builder.proofs.constants.crowded.Reads as crowded-reads
-use Rattle.builder.proofs.constants.grown.Reads as grown-reads
-use Rattle.builder.proofs.constants.position.Reads as position-reads
-use Rattle.builder.proofs.constants.write_base.Reads as write-base-reads
+use Rattle.const_table.proofs.constants.crowded.Reads as crowded-reads
+use Rattle.const_table.proofs.constants.grown.Reads as grown-reads
+use Rattle.const_table.proofs.constants.position.Reads as position-reads
+use Rattle.const_table.proofs.constants.write_base.Reads as write-base-reads
 use Rattle.builder.proofs.ir_builder.IrBuilder.with_bases.Reads as with-bases-reads
-use Rattle.builder.proofs.ir_builder.keeps.Reads as keeps-reads
+use Rattle.const_table.proofs.constants.keeps.Reads as keeps-reads
 use Rattle.builder.proofs.ir_builder.leaf.Reads as leaf-reads
 use Rattle.builder.proofs.ir_builder.settle.Reads as settle-reads
 use Rattle.builder.proofs.ir_builder.short_nodes.Reads as short-nodes-reads

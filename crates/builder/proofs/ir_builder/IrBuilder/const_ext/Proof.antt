@@ -3,20 +3,21 @@
 use native.Mathlib.Omega.{arith}
 use mathlib.Core.Path.{sym, ap, _∙_}
 use denote.Ref.{now}
-use Rattle.builder.specs.Consts.{sameExt, extPositionOf}
+use Rattle.const_table.specs.Positions.{sameExt, extPositionOf}
 use Rattle.builder.proofs.AnswerLaws.{long-nodes}
-use Rattle.builder.proofs.ConstLaws.{scan-most, new-space, kept-new, exts-counting, const-short, const-few, const-crowded, const-done}
+use Rattle.builder.proofs.ConstLaws.{exts-counting, const-short, const-few, const-crowded, const-done}
+use Rattle.const_table.proofs.PositionLaws.{scan-most, new-space, kept-new}
 use borrow.Author.Needs.{needs}
 use Rattle.builder.proofs.ir_builder.IrBuilder.const_ext.Statement.{statement}
 use Rattle.builder.proofs.ir_builder.IrBuilder.const_ext.Tie as tie
 use Rattle.builder.proofs.ir_builder.IrBuilder.const_ext.Reads as reads
 use Rattle.builder.proofs.ir_builder.IrBuilder.const_ext.Lts as lts
-use Rattle.builder.proofs.constants.crowded.Reads as crowded-reads
-use Rattle.builder.proofs.constants.grown.Reads as grown-reads
-use Rattle.builder.proofs.constants.position_ext.Reads as position-ext-reads
-use Rattle.builder.proofs.constants.write_ext.Reads as write-ext-reads
+use Rattle.const_table.proofs.constants.crowded.Reads as crowded-reads
+use Rattle.const_table.proofs.constants.grown.Reads as grown-reads
+use Rattle.const_table.proofs.constants.position_ext.Reads as position-ext-reads
+use Rattle.const_table.proofs.constants.write_ext.Reads as write-ext-reads
 use Rattle.builder.proofs.ir_builder.IrBuilder.with_exts.Reads as with-exts-reads
-use Rattle.builder.proofs.ir_builder.keeps.Reads as keeps-reads
+use Rattle.const_table.proofs.constants.keeps.Reads as keeps-reads
 use Rattle.builder.proofs.ir_builder.leaf.Reads as leaf-reads
 use Rattle.builder.proofs.ir_builder.settle.Reads as settle-reads
 use Rattle.builder.proofs.ir_builder.short_nodes.Reads as short-nodes-reads

@@ -1,0 +1,2 @@
+// The builder's calls on nodes and places as one call, for callers that take a call as data.
+pub mod call;

@@ -1,0 +1,2 @@
+// The walk over bytes: a stored blob, a frame and evals as little-endian words.
+pub mod walking;

@@ -1,0 +1,3 @@
+pub mod WordLaws
+pub mod RoomLaws
+pub mod ReadingLaws

@@ -1,0 +1,9 @@
+-- A blob as it was read.
+-- Assumes nothing.
+use Rattle.device.specs.declared.blob.BlobCounts.{BlobCounts}
+use Rattle.device.specs.Blob.{Blob}
+use Rattle.stored.specs.Form.{Tables}
+
+-- a blob, from its counts and the rooms that it was read into
+abbrev pub blobIn : BlobCounts → Tables → Blob
+blobIn c t = record { counts = c; nodes = t .nodes; roots = t .roots }

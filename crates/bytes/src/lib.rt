@@ -1,0 +1,2 @@
+// Numbers as little-endian bytes.
+pub mod bytes;

@@ -1,0 +1,3 @@
+pub mod RefuseLaws
+pub mod EvalLaws
+pub mod OrderLaws

@@ -1,0 +1,3 @@
+-- The cubic extension of the field.
+pub mod Ext
+pub mod Tower

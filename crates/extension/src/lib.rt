@@ -1,0 +1,2 @@
+// The cubic extension of the field.
+pub mod extensions_goldilocks;

@@ -1,0 +1,2 @@
+-- The report of constraints that have no root.
+pub mod Gaps

@@ -1,0 +1,2 @@
+-- The laws of handles.
+pub mod HandleLaws

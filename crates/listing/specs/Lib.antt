@@ -1,0 +1,3 @@
+-- The listing of a stored blob, as text.
+pub mod Listing
+pub mod ExampleE

@@ -1,0 +1,2 @@
+// The listing of a stored blob, as text.
+pub mod listing;

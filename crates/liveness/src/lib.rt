@@ -1,0 +1,2 @@
+// Which nodes are emitted, who reads a node last, and which are roots.
+pub mod liveness;

@@ -1,0 +1,3 @@
+pub mod OutLaws
+pub mod AgreeLaws
+pub mod BlobLaws

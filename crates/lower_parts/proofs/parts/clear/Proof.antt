@@ -1,0 +1,65 @@
+-- `clear` meets its contract: the first i words are 0.
+-- Assumes nothing.
+use Prim.Native.Nat.{_+_, _≤_, _-_}
+use mathlib.Core.Path.{_≡_, refl, sym}
+use native.Mathlib.Omega.{arith}
+use borrow.Author.Needs.{needs}
+use Rattle.device.specs.Check.{cleared}
+use Rattle.device.proofs.MarkLaws.{clear-start, clear-more, cleared-long}
+use Rattle.lower_parts.proofs.parts.clear.Statement.{statement}
+use Rattle.lower_parts.proofs.parts.clear.Tie as tie
+use Rattle.lower_parts.proofs.parts.clear.Reads as reads
+use Rattle.lower_parts.proofs.parts.clear.Lts as lts
+
+abbrev Inv-loop : tie.InvT-loop
+Inv-loop list₀ n i₀ list i = (i ≤ n) × (list ≡ cleared i list₀)
+
+abbrev μ-loop : tie.MeasureT-loop
+μ-loop list₀ n i₀ list i = n - i
+
+-- src/lower.rt:27:5
+loop-holds : tie.Need-loop-holds Inv-loop μ-loop
+loop-holds c = (omega arith, clear-start _)
+
+-- src/lower.rt:28:9
+mul-list : tie.Need-mul-list Inv-loop μ-loop
+mul-list c = omega (arith, c .loop-test .taken, c .before .before .pre, c .before .before .fits)
+
+-- src/lower.rt:28:9
+slice-write-list : tie.Need-slice-write-list Inv-loop μ-loop
+slice-write-list c = let l = c .before .loop in let old = c .before .before .args .list .now in let q = cleared-long (l .i) old (omega (arith, c .loop-test .taken, c .before .before .pre)) in rw (l .inv .1, q) (omega (arith, c .loop-test .taken, c .before .before .pre))
+
+-- src/lower.rt:29:9
+add-i : tie.Need-add-i Inv-loop μ-loop
+add-i c = search needs
+
+-- src/lower.rt:27:5
+loop-less : tie.Need-loop-less Inv-loop μ-loop
+loop-less c = search needs
+
+-- src/lower.rt:27:5
+loop-again : tie.Need-loop-again Inv-loop μ-loop
+loop-again c = let l = c .before .loop in (omega (arith, c .loop-test .taken), rw (l .inv .1) (clear-more (c .before .before .args .list .now) (l .i) (omega (arith, c .loop-test .taken, c .before .before .pre))))
+
+-- src/lower.rt:22:1
+same-length : tie.Need-same-length Inv-loop μ-loop
+same-length c = let l = c .before .loop in rw (l .inv .1) (cleared-long (l .i) (c .before .before .args .list .now) (omega (arith, l .inv .0, c .before .before .pre)))
+
+-- src/lower.rt:22:1
+returns : tie.Need-returns Inv-loop μ-loop
+returns c = let l = c .before .loop in let e : l .i ≡ c .before .before .args .n = omega (arith, c .loop-test .left, l .inv .0) in rw e at (l .inv .1)
+
+pub clear-spec : {M : Type 1} → statement M
+clear-spec =
+    tie.close
+    (tie.spec
+    Inv-loop
+    μ-loop
+    loop-holds
+    mul-list
+    slice-write-list
+    add-i
+    loop-less
+    loop-again
+    same-length
+    returns)

@@ -1,0 +1,3 @@
+pub mod ReadsLaws
+pub mod Single
+pub mod OrderLaws

@@ -1,0 +1,3 @@
+-- Which trace columns a program reads in the next row.
+pub mod Marks
+pub mod Reads

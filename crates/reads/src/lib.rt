@@ -1,0 +1,2 @@
+// Which trace columns a program reads in the next row.
+pub mod reads;

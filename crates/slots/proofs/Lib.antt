@@ -1,0 +1,5 @@
+pub mod ArithLaws
+pub mod CellLaws
+pub mod LeafLaws
+pub mod LoadLaws
+pub mod RootLaws

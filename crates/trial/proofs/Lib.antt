@@ -1,3 +1,0 @@
--- Laws of the trial.
-pub mod StepLaws
-pub mod TrialLaws

@@ -1,3 +1,0 @@
--- What the trial's contracts cite.
-pub mod Step
-pub mod Trial

@@ -1,0 +1,3 @@
+-- What a step of the trial reads, computes and stores.
+pub mod Step
+pub mod Trial
