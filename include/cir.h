@@ -2,8 +2,9 @@
  * libhost_builder.a the builder's, libhost_stored.a those on stored files alone, libhost.a those on programs and blobs;
  * libhost_builder_bytes.a and libhost_bytes.a have the calls on bytes of the builder and of programs and blobs.
  *
- * A field value is a word that stands for its remainder by p = 2^64 - 2^32 + 1. Every word is taken; every word that a
- * call writes or returns as a value is below p. An extension value is three words in a row, over w with w cubed = 2.
+ * A field value is a word that stands for its remainder by p = 2^64 - 2^32 + 1. Every word is taken; every value that a call
+ * writes or returns is below p, but the rooms of words that a call on bytes borrows hold what the bytes have. An extension
+ * value is three words in a row, over w with w cubed = 2.
  *
  * A slice is lent as a pointer and its length in words. What a call writes must overlap nothing else that it is lent.
  * A pointer is not null and is aligned to its words, also where the length is 0.
@@ -33,11 +34,11 @@
  *   11  the blob is illegal; place: the lowest node at fault, else the lowest root
  *   12  a root below num_base is extension; place: the lowest such root. No node and no root is at fault by 11
  *
- * Calls on bytes test more, before the numbers of the call on words:
+ * Calls on bytes test more:
  *
- *   15  a stored form has under 32 bytes, or its distance or length is not as its counts say
- *   10  a room for the words of a stored form is too short
- *    1  a room for the words of other bytes is too short
+ *   15  a stored form has under 32 bytes, or its distance or length is not as its counts say: before all numbers above
+ *   10  a room for the words of a stored form is too short: after 15, and before all numbers above
+ *    1  a room for the words of other bytes is too short: where 1 stands above, and before what else is 1
  *
  * and, where a blob is written, 10 after all others: the file is too short.
  *
@@ -350,8 +351,8 @@ uint64_t cir_check_stored(size_t steps, size_t main_width, size_t aux_width, siz
                           size_t bytes_len);
 
 /* the program's tables are unpacked into the four rooms of words and lowered into the four of the blob, which is written in
- * form A at the front of file; its length in bytes into length. Bytes of file past it stay. Else 1, where a room of words
- * is shorter than its table, with nothing written; or 8, 9, 1, 7 or 10 of lowering, 10 also where the file is too short;
+ * form A at the front of file; its length in bytes into length. Bytes of file past it stay. Else 8, 9, or 1, where a
+ * room of words is shorter than its table, with nothing written; or 1, 7 or 10 of lowering, 10 also where the file is too short;
  * then the words stand in their rooms, and file and length are as they were.
  *
  * Lowering borrows a word a node in used, last_use, is_root and slot_of and two in free_slots, of any content; they are
@@ -371,8 +372,8 @@ uint64_t cir_lower_stored(size_t n, size_t base_count, size_t ext_count, size_t 
 
 /* the file is read into the four rooms, frame and evals are unpacked into the six of words, and the blob is walked as
  * cir_walk does over those words; after 0 the evals are packed back, after a refusal they are as they were. Else 15 or 10;
- * or 1, where a room of words is shorter than its bytes, with the blob in the rooms and nothing else written; or 2, 1, 14,
- * 11 or 12. */
+ * or 2, or 1, where a room of words is shorter than its bytes, with the blob in the rooms and nothing else written; or 1, 14, 11
+ * or 12. */
 uint64_t cir_walk_stored(size_t steps, size_t main_width, size_t aux_width, size_t challenge_count,
                          size_t alpha_count, uint64_t o0, uint64_t o1, uint64_t o2, const uint8_t *file,
                          size_t file_len, const uint8_t *main, size_t main_len, const uint8_t *aux, size_t aux_len,
@@ -388,8 +389,8 @@ uint64_t cir_walk_stored(size_t steps, size_t main_width, size_t aux_width, size
 
 /* ---- the builder over bytes
  *
- * The builder's calls with their tables as little-endian words, and the same rule for places: nodes, places and roots of four bytes a word, constants and
- * the gap report of eight. A room is lent beside each table, node_words for nodes and so on: 1, before the numbers of the
+ * The builder's calls with their tables as little-endian words, and the same rule for places: nodes, places and roots of
+ * four bytes a word, constants and the gap report of eight. A room is lent beside each table, node_words for nodes and so on: 1, before the numbers of the
  * call on words, where one has fewer words than its bytes, and then no room has changed. Else the rooms have the words at
  * their fronts, also after a refusal of the call; the bytes have changed on 0 alone.
  */

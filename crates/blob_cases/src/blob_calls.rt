@@ -3,7 +3,7 @@
 use super::blob_line::Case;
 use super::blob_line::OFFSET_AT;
 use super::blob_line::Rooms;
-use device::blob::BlobCounts;
+use blob_rules::blob::BlobCounts;
 use device::check::check_blob;
 use sample::answer::number;
 use sample::line::least;

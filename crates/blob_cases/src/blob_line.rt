@@ -1,6 +1,6 @@
 // A line of the sample that is a blob with a frame, and its tables. The head of rust/differential/src/blobs/sample.rs says
 // what the numbers of a line are.
-use device::blob::BlobCounts;
+use blob_rules::blob::BlobCounts;
 use ir::frame::Shape;
 use sample::line::count_at;
 use sample::line::plus;

@@ -32,7 +32,7 @@ handleRow t e = row (strangerB (t .nodes) (t .count) e) 3
 abbrev pub handlesRow : Table → Expr → Expr → Row
 handlesRow t a b = row (strangerB (t .nodes) (t .count) a || strangerB (t .nodes) (t .count) b) 3
 
--- those of each call, before 4
+-- the rows before 4: of a cell, a challenge or an alpha power
 abbrev pub indexedRows : Table → ℕ → List Row
 indexedRows t i = shortRow t ∷ indexRow i ∷ []
 

@@ -55,11 +55,11 @@ constOf start t bs m v = internOf start t constBase 0 (length bs) m (positionOf 
 abbrev pub constExtOf : Start → Table → List ℕ → ℕ → List ℕ → Interned
 constExtOf start t xs m v = internOf start t constExt 1 (length xs / 3) m (extPositionOf xs (min m most) v) xs (withExt xs m v)
 
--- the counts of nodes and of base constants, or of extension constants
+-- a builder with other counts of nodes and of base constants
 abbrev pub withBases : IrBuilder → ℕ → ℕ → IrBuilder
 withBases b n m = record { nodes = n; bases = m; exts = b .exts; roots = b .roots }
 
--- and of extension constants
+-- and with other counts of nodes and of extension constants
 abbrev pub withExts : IrBuilder → ℕ → ℕ → IrBuilder
 withExts b n m = record { nodes = n; bases = b .bases; exts = m; roots = b .roots }
 
@@ -81,7 +81,7 @@ empty = record { nodes = 0; bases = 0; exts = 0; roots = 0 }
 abbrev pub newRows : Table → List ℕ → List Row
 newRows t bs = row (eqb (length bs) 0) 5 ∷ row (eqb (room t) 0) 4 ∷ []
 
--- the constant 0 over clearedFrom places: node 0
+-- the constant 0 over cleared places: node 0
 abbrev pub zeroOf : Start → List ℕ → List ℕ → List ℕ → Interned
 zeroOf start nodes places bs = constOf start (table nodes (clearedFrom places 0 (length places)) 0) bs 0 0
 

@@ -64,6 +64,6 @@ pub record EmitGives (o : Rooting) (b : IrBuilder) (r : Emitted) (rs : List ℕ)
 
 -- ---- finish
 
--- the program's counts, with how many leading constraints are base
+-- the program's counts, with num_base as the caller has it
 abbrev pub finished : IrBuilder → ℕ → Counts
 finished b base = record { nodes = b .nodes; bases = b .bases; exts = b .exts; roots = b .roots; «num_base» = base }

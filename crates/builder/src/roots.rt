@@ -1,4 +1,4 @@
-// The words of the root table, and of any table that is clearedFrom.
+// The words of the root table, and of any table that is cleared.
 ghost use mathlib.Core.Path.{_≡_};
 ghost use Prim.Native.Nat.{_-_, _≤_, max};
 ghost use lib.ListN.{length};

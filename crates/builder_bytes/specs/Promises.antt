@@ -38,7 +38,7 @@ pub record GivesBytes (o : Built) (b : IrBuilder) (nodes places : Lent) (r : Ans
   pub nodes-end : nodes′ ≡ cond (shortTables nodes places) nodes (packedOn 4 (o .said) (o .after .nodes) nodes)
   pub places-end : places′ ≡ cond (shortTables nodes places) places (packedOn 4 (o .said) (o .after .places) places)
 
--- a call of nodes, places and constants, whose outcome over their words is o
+-- 1: a room of nodes, of places or of constants that is too short
 abbrev pub shortThree : Lent → Lent → Lent → Bool
 shortThree nodes places consts = shortTables nodes places || tight 8 consts
 
@@ -57,7 +57,7 @@ pub record EmitBytes (o : Rooting) (b : IrBuilder) (nodes roots : Lent) (r : Emi
   pub nodes-end : nodes′ ≡ cond (shortTables nodes roots) nodes (unpackedIn 4 nodes)
   pub roots-end : roots′ ≡ cond (shortTables nodes roots) roots (packedOn 4 (o .said) (o .roots) roots)
 
--- the gap report of the first k constraints: the roots are only read
+-- 1: a room of the roots or of the report that is too short
 abbrev pub shortReport : Lent → Lent → Bool
 shortReport roots out = tight 4 roots || tight 8 out
 
@@ -65,11 +65,11 @@ shortReport roots out = tight 4 roots || tight 8 out
 abbrev pub reportSaid : ℕ → Lent → Lent → Said
 reportSaid k roots out = gapsSaid (held 4 roots) k (length (held 8 out))
 
--- the words of the report's room on 0, else those that it held
+-- the words that the report's bytes hold, on 0 with the gaps in front
 abbrev pub reported : ℕ → Lent → Lent → List ℕ
 reported k roots out = onDone (reportSaid k roots out) (sets (held 8 out) 0 (gapsOf (held 4 roots) k)) (held 8 out)
 
--- the promise of the gap report
+-- the promise of the gap report of the first k constraints: the roots are only read
 pub record GapsBytes (k : ℕ) (roots out : Lent) (r : Gaps) (roots′ out′ : Lent) : Type 0 where
   pub said : saidOfGaps r ≡ shortOr (shortReport roots out) (reportSaid k roots out)
   pub roots-end : roots′ ≡ cond (shortReport roots out) roots (unpackedIn 4 roots)

@@ -12,7 +12,7 @@ use Rattle.ir.specs.Words.{Node, nodeAt}
 use Rattle.node_table.specs.Words.{view}
 use Rattle.node_table.specs.Hashing.{Start}
 use Rattle.node_table.specs.Table.{Table, table, Reached}
-use Rattle.built.specs.Draft.{Draft, Call}
+use Rattle.built.specs.Draft.{Draft, Call, freshDraft}
 use Rattle.built.specs.Memory.{Memory, roomOf, baseAt, extAt, baseRoom, extRoom}
 use Rattle.built.specs.History.{answers, after, replies, drafted}
 use Rattle.built.specs.Growth.{Growth, grown, Stage, GoesOn, TablesMayGrow}
@@ -20,7 +20,9 @@ use Rattle.built.proofs.NodeLaws.{Nodes}
 use Rattle.built.proofs.ConstantLaws.{Held}
 use Rattle.built.proofs.RootLaws.{Roots}
 use Rattle.built.proofs.StepLaws.{Holds, holds-stands}
-use Rattle.built.proofs.Theorems.{ran, history}
+use Rattle.built.proofs.FormedLaws.{Sane, fresh-sane}
+use Rattle.built.proofs.Theorems.{ran, history, drafted-sane, well-made}
+use Rattle.built.proofs.ServesLaws.{serving}
 
 -- ---- nodes
 
@@ -102,13 +104,15 @@ module _ (start : Start) (m : Memory) (d : Draft) (g : Growth) (h : Holds start 
 
 -- ---- calls in stages
 
-along : (start : Start) (ss : List Stage) (m : Memory) (d : Draft) → Holds start m d → GoesOn start m d ss
+along : (start : Start) (ss : List Stage) (m : Memory) (d : Draft) → Holds start m d → Sane d → GoesOn start m d ss
 unfolding GoesOn
-along start [] m d h = holds-stands start m d h
-along start (s ∷ ss) m d h =
+along start [] m d h f =
+    let w = well-made start m d h f in
+    record { stands = holds-stands start m d h; made = w; serves = λ base. serving _ (w .few base) (w .long base) (w .formed base) }
+along start (s ∷ ss) m d h z =
     let m′ = grown (s .growth) m in
     let f = ran start (roomOf m′) (s .calls) m′ d refl (holds-grown start m d (s .growth) h) in
-    (f .says, along start ss (after start m′ (s .calls)) (drafted (roomOf m′) d (s .calls)) (f .holds))
+    (f .says, along start ss (after start m′ (s .calls)) (drafted (roomOf m′) d (s .calls)) (f .holds) (drafted-sane (roomOf m′) (s .calls) d z))
 
 pub tables-may-grow : TablesMayGrow
-tables-may-grow start low m e cs = record { goes-on = λ ss. along start ss _ _ (history start start low m e cs .holds) }
+tables-may-grow start low m e cs = record { goes-on = λ ss. along start ss _ _ (history start start low m e cs .holds) (drafted-sane (roomOf m) cs freshDraft fresh-sane) }

@@ -6,7 +6,7 @@ pub mod StepLaws
 pub mod FreshLaws
 pub mod FormedLaws
 pub mod Theorems
-pub mod GrowthLaws
 pub mod ServesLaws
+pub mod GrowthLaws
 pub mod RunLaws
 pub mod RoomLaws

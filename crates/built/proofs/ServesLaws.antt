@@ -11,7 +11,7 @@ use Rattle.built.specs.Serves.{Serves, BuiltProgramsServe}
 use Rattle.built.proofs.Theorems.{programs-are-well-formed}
 
 module _ (q : Program) (few : tooManyNodes (q .counts) ≡ false) (long : shortProgram q ≡ false) (formed : illFormed (q .counts) (q .nodes) (q .roots) ≡ none) where
-  serving : Serves q
+  pub serving : Serves q
   unfolding lowerSaid shortMemory shortFrame
   serving =
       record {

@@ -20,7 +20,7 @@ use Rattle.gaps.specs.Gaps.{gapsOf}
 use Rattle.node_table.specs.Hashing.{Start, hashOf, startOf}
 use Rattle.built.specs.Draft.{Draft, Room, Call, told, freshDraft}
 use Rattle.built.specs.Memory.{Memory, answered, fresh, baseAt, extAt, baseRoom, extRoom, roomOf}
-use Rattle.built.specs.History.{answers, after, replies, drafted, StartsInside, programOf, gapsIn, BuilderFollowsRust, AnyHashWillDo, ProgramsAreWellFormed, GapsAreFound}
+use Rattle.built.specs.History.{answers, after, replies, drafted, StartsInside, programOf, WellMade, gapsIn, BuilderFollowsRust, AnyHashWillDo, ProgramsAreWellFormed, GapsAreFound}
 use Rattle.built.proofs.NodeLaws.{nodes-many, node-of}
 use Rattle.built.proofs.ConstantLaws.{consts-many}
 use Rattle.built.proofs.StepLaws.{Holds, holds-program, holds-stands, Step, step}
@@ -41,7 +41,7 @@ ran start r (c ∷ cs) m d e h =
     let f = ran start r cs (answered start m c .memory) (told r d c .draft) (s .rooms ∙ e) (s .holds) in
     record { says = ap₂ _∷_ (s .said) (f .says); holds = f .holds }
 
-drafted-sane : (r : Room) (cs : List Call) (d : Draft) → Sane d → Sane (drafted r d cs)
+pub drafted-sane : (r : Room) (cs : List Call) (d : Draft) → Sane d → Sane (drafted r d cs)
 unfolding drafted
 drafted-sane r [] d s = s
 drafted-sane r (c ∷ cs) d s = drafted-sane r cs (told r d c .draft) (told-sane r d s c)
@@ -132,17 +132,19 @@ any-hash-will-do other low′ start low m e cs =
       program = holds-program start _ _ s ∙ sym (holds-program other _ _ t);
     }
 
-pub programs-are-well-formed : ProgramsAreWellFormed
+pub well-made : (start : Start) (m : Memory) (d : Draft) → Holds start m d → Sane d → WellMade m
 unfolding checked
-programs-are-well-formed start low m e cs =
-    let h = history start start low m e cs .holds in
-    let s = drafted-sane (roomOf m) cs freshDraft fresh-sane in
+well-made start m d h s =
     record {
-      few = is-few start _ _ h s;
-      long = is-long start _ _ h s;
-      formed = is-formed start _ _ h s;
-      passes = λ base k. rw (is-few start _ _ h s base, k, is-long start _ _ h s base, is-formed start _ _ h s base);
+      few = is-few start m d h s;
+      long = is-long start m d h s;
+      formed = is-formed start m d h s;
+      passes = λ base k. rw (is-few start m d h s base, k, is-long start m d h s base, is-formed start m d h s base);
     }
+
+pub programs-are-well-formed : ProgramsAreWellFormed
+programs-are-well-formed start low m e cs =
+    well-made start _ _ (history start start low m e cs .holds) (drafted-sane (roomOf m) cs freshDraft fresh-sane)
 
 pub gaps-are-found : GapsAreFound
 gaps-are-found start low m e cs =

@@ -6,7 +6,8 @@ use Prim.Native.Nat.{ℕ}
 use Rattle.node_table.specs.Hashing.{Start}
 use Rattle.built.specs.Draft.{Draft, Call, freshDraft}
 use Rattle.built.specs.Memory.{Memory, roomOf, Stands}
-use Rattle.built.specs.History.{answers, after, reached, replies, drafted, OfHistories}
+use Rattle.built.specs.History.{answers, after, reached, replies, drafted, programOf, WellMade, OfHistories}
+use Rattle.built.specs.Serves.{Serves}
 
 -- words that are lent after those that were there; places stay, since where a lookup starts hangs on how many there are
 pub record Growth : Type 0 where
@@ -32,10 +33,15 @@ pub record Stage : Type 0 where
   pub growth : Growth
   pub calls : List Call
 
--- stage after stage the calls answer what the lists answer, in the room that there is then, and at the end the memory stands for
--- the program
+-- the memory stands for the program, which is well-formed and serves
+pub record Ends (m : Memory) (d : Draft) : Type 0 where
+  pub stands : Stands m d
+  pub made : WellMade m
+  pub serves : (base : ℕ) → Serves (programOf m base)
+
+-- stage after stage the calls answer what the lists answer, in the room that there is then
 unfoldable pub GoesOn : Start → Memory → Draft → List Stage → Type 0
-GoesOn start m d [] = Stands m d
+GoesOn start m d [] = Ends m d
 GoesOn start m d (s ∷ ss) =
     let m′ = grown (s .growth) m in
     (answers start m′ (s .calls) ≡ replies (roomOf m′) d (s .calls))

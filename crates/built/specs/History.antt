@@ -70,29 +70,33 @@ pub record SameAs (other : Start) (start : Start) (m : Memory) (cs : List Call) 
   pub builder : reached start m cs .builder ≡ reached other m cs .builder
   pub program : draftOf (reached start m cs) ≡ draftOf (reached other m cs)
 
--- 3. What `finish` hands on is well-formed, its counts are within the limits, and no table is short
+-- what `finish` hands on, with a num_base
 abbrev pub programOf : Memory → ℕ → Program
 programOf m base = record { counts = finished (m .builder) base; nodes = m .nodes; bases = m .bases; exts = m .exts; roots = m .roots }
 
--- stated of every number of leading base constraints
-pub record WellBuilt (start : Start) (m : Memory) (cs : List Call) : Type 0 where
-  pub few : (base : ℕ) → tooManyNodes (programOf (reached start m cs) base .counts) ≡ false
-  pub long : (base : ℕ) → shortProgram (programOf (reached start m cs) base) ≡ false
-  pub formed : (base : ℕ) → illFormed (programOf (reached start m cs) base .counts) (reached start m cs .nodes) (reached start m cs .roots) ≡ none
+-- it is well-formed, nodes and constants are within their limits, and no table is short, whatever num_base is
+pub record WellMade (m : Memory) : Type 0 where
+  pub few : (base : ℕ) → tooManyNodes (programOf m base .counts) ≡ false
+  pub long : (base : ℕ) → shortProgram (programOf m base) ≡ false
+  pub formed : (base : ℕ) → illFormed (programOf m base .counts) (m .nodes) (m .roots) ≡ none
   -- so the program check lets it through
-  pub passes : (base : ℕ) → tooManyRoots (programOf (reached start m cs) base .counts) ≡ false → checked (programOf (reached start m cs) base) ≡ gives []
+  pub passes : (base : ℕ) → tooManyRoots (programOf m base .counts) ≡ false → checked (programOf m base) ≡ gives []
 
--- 4. The gap report lists the constraints whose root on the program is node 0
+-- 3. So it is after any calls
+abbrev pub WellBuilt : Start → Memory → List Call → Type 0
+WellBuilt start m cs = WellMade (reached start m cs)
+
+-- the constraints whose root on the program is node 0
 abbrev pub gapsIn : Draft → List ℕ
 gapsIn d = gapsOf (d .roots) (length (d .roots))
 
--- the report over the memory, of any calls
+-- 4. The gap report over the memory lists those, after any calls
 pub record GapsFound (start : Start) (m : Memory) (cs : List Call) : Type 0 where
   -- the roots are lent in full, so 1 is never told
   pub long : ltb (length (reached start m cs .roots)) (reached start m cs .builder .roots) ≡ false
   pub gaps : gapsOf (reached start m cs .roots) (reached start m cs .builder .roots) ≡ gapsIn (drafted (roomOf m) freshDraft cs)
 
--- 5. Where every answer is 0 a wider room changes none, and not the program: so it is the Rust, whose tables grow
+-- whether every answer is 0
 abbrev pub allDone : List Said → Bool
 allDone [] = true
 allDone (s ∷ ss) = eqb (s .number) 0 && allDone ss
@@ -104,13 +108,13 @@ pub record Wider (r big : Room) : Type 0 where
   pub exts : r .exts ≤ big .exts
   pub roots : r .roots ≤ big .roots
 
--- stated of calls that all answer 0
+-- 5. Where every answer is 0 a wider room changes none, and not the program: so it is the Rust, whose tables grow
 abbrev pub RoomDoesNotMatter : Type 0
 RoomDoesNotMatter =
     (r big : Room) → Wider r big → (d : Draft) (cs : List Call) → allDone (replies r d cs) ≡ true
     → (replies big d cs ≡ replies r d cs) × (drafted big d cs ≡ drafted r d cs)
 
--- the first four, of histories
+-- the first, of any calls from a fresh builder
 abbrev pub BuilderFollowsRust : Type 0
 BuilderFollowsRust = OfHistories FollowsRust
 

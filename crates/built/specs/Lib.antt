@@ -2,7 +2,7 @@
 pub mod Draft
 pub mod Memory
 pub mod History
-pub mod Growth
 pub mod Serves
+pub mod Growth
 pub mod Runs
 pub mod ExampleE

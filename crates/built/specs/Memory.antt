@@ -106,7 +106,7 @@ draftOf m =
       roots = take (m .builder .roots) (m .roots);
     }
 
--- how many base constants fit, and extension constants
+-- how many base constants fit
 abbrev pub baseRoom : List ℕ → ℕ
 baseRoom bs = min (length bs) most
 

@@ -30,7 +30,7 @@ use Rattle.built.specs.History.{reached, programOf, OfHistories}
 abbrev pub lowerLeft : Program → Lists → Output → List Row
 lowerLeft q b o = row (tooManyRoots (q .counts)) 9 ∷ row (shortLists (q .counts .nodes) b) 1 ∷ row (shortOutput (lowering q) o) 10 ∷ []
 
--- over a shape and a frame, with so many words of base and extension evals, and a room
+-- and those of `eval_program`, over a shape and a frame, with so many words of base and extension evals, and a room
 abbrev pub evalLeft : Program → Shape → Lent → (base ext : ℕ) → List ℕ → List Row
 evalLeft q s l base ext room =
     row (tooManyRoots (q .counts)) 9
@@ -54,7 +54,7 @@ pub record Serves (q : Program) : Type 0 where
       → ProverAnswer (q .counts) s (q .nodes) (q .roots) (withConstants (q .bases) (q .exts) l) Done base base₁ ext ext₁ room room₁
       → (b b′ : Lists) (o o′ : Output) (a : Lowering) → LowerAnswer q b o a b′ o′ → Faithful q s l base base₁ ext ext₁ b o a o′
 
--- of any history, with any number of leading base constraints
+-- of any history, with any num_base
 pub record BuiltServes (start : Start) (m : Memory) (cs : List Call) : Type 0 where
   pub serves : (base : ℕ) → Serves (programOf (reached start m cs) base)
 

@@ -5,9 +5,10 @@ use mathlib.Core.Path.{_≡_, refl, sym, ap, subst, _∙_}
 use Prim.Native.Nat.{ℕ}
 use Rattle.laws.proofs.Cases.{by-test}
 use Rattle.ir.specs.declared.frame.Shape.{Shape}
+use Rattle.ir.specs.Shape.{overShape}
 use Rattle.ir.specs.declared.refusal.Outcome.{Outcome}
 use Rattle.values.specs.Frame.{Lent}
-use Rattle.device.specs.Blob.{Blob}
+use Rattle.blob_rules.specs.Blob.{Blob}
 use Rattle.walk.proofs.Single.{walk-single}
 use Rattle.stored.specs.declared.read.ReadStored.{ReadStored}
 use Rattle.stored.specs.declared.read.ReadStored.the-variants as ReadStored
@@ -29,12 +30,15 @@ module _ {b : Blob} {s : Shape} {l : Lent} {evals rooms : Evals} {marks slots : 
       )
 
 pub walk-bytes-single : {b : Blob} {s : Shape} {t : Tables} {offset : List ℕ} {frame : Frame} {m m₁ m₂ : Memory} {a a′ : Outcome} → WalkBytes b s t offset frame m a m₁ → WalkBytes b s t offset frame m a′ m₂ → (a ≡ a′) × (m₁ ≡ m₂)
-walk-bytes-single {frame = frame} {m = m} {m₁ = m₁} {m₂ = m₂} {a = a} {a′ = a′} f g =
+walk-bytes-single {s = s} {frame = frame} {m = m} {m₁ = m₁} {m₂ = m₂} {a = a} {a′ = a′} f g =
+    by-test (overShape s) ((a ≡ a′) × (m₁ ≡ m₂))
+    (λ o. (f .over o .0 ∙ sym (g .over o .0), f .over o .1 ∙ sym (g .over o .1)))
+    λ o.
     by-test (shortRooms frame m) ((a ≡ a′) × (m₁ ≡ m₂))
-    (λ h. (f .short h .0 ∙ sym (g .short h .0), f .short h .1 ∙ sym (g .short h .1)))
+    (λ h. (f .short o h .0 ∙ sym (g .short o h .0), f .short o h .1 ∙ sym (g .short o h .1)))
     λ h.
-    let q = walked-single (f .walked h) (g .walked h) in
-    let r = f .unpacked h ∙ sym (g .unpacked h) in
+    let q = walked-single (f .walked o h) (g .walked o h) in
+    let r = f .unpacked o h ∙ sym (g .unpacked o h) in
     (q .0, λ i. record { evals = q .1 i; frame-rooms = r i; eval-rooms = q .2 i; marks = q .3 i; slots = q .4 i })
 
 module _ {s : Shape} {offset file : List ℕ} {rooms : Tables} {frame : Frame} {m : Memory} {a a′ : Outcome} {rooms₁ rooms₂ : Tables} {m₁ m₂ : Memory} (f : WalkStored s offset file rooms frame m a rooms₁ m₁) (g : WalkStored s offset file rooms frame m a′ rooms₂ m₂) where

@@ -1,6 +1,6 @@
 -- What the walk over bytes answers, case by case.
 -- Assumes nothing.
-use mathlib.Core.Bool.{Bool, true, false, _||_}
+use mathlib.Core.Bool.{Bool, true, false, cond, _||_}
 use mathlib.Core.List.{List, _++_}
 use mathlib.Core.Path.{_≡_, refl, sym, ap, subst, _∙_}
 use Prim.Native.Nat.{ℕ, _+_, _*_, _/_, _≤_}
@@ -13,14 +13,15 @@ use Rattle.laws.proofs.Parts.{sets-after}
 use Rattle.laws.proofs.Tests.{or-left, or-right, clash}
 use Rattle.ir.specs.declared.frame.Shape.{Shape}
 use Rattle.ir.specs.declared.refusal.Refusal.{Refusal}
-use Rattle.ir.specs.declared.refusal.Refusal.the-variants.{ShortMemory}
+use Rattle.ir.specs.declared.refusal.Refusal.the-variants.{OverLimit, ShortMemory}
 use Rattle.ir.specs.declared.refusal.Outcome.{Outcome}
 use Rattle.ir.specs.declared.refusal.Outcome.the-variants as Outcome
 use Rattle.ir.specs.Refusals.{saidOf}
+use Rattle.ir.specs.Shape.{overShape}
 use Rattle.ir.proofs.RefusalLaws.{refusal-number}
 use Rattle.values.specs.Frame.{Lent}
-use Rattle.device.specs.declared.blob.BlobCounts.{BlobCounts}
-use Rattle.device.specs.Blob.{Blob}
+use Rattle.blob_rules.specs.declared.blob.BlobCounts.{BlobCounts}
+use Rattle.blob_rules.specs.Blob.{Blob}
 use Rattle.walk.specs.Walk.{WalkAnswer}
 use Rattle.stored.specs.declared.read.ReadStored.{ReadStored}
 use Rattle.stored.specs.declared.read.ReadStored.the-variants as ReadStored
@@ -49,6 +50,10 @@ frame-fits f rooms h =
       challenges-fit = ltb-false _ _ (or-right (m || a) c mac);
       alphas-fit = ltb-false _ _ (or-right (m || a || c) p h);
     }
+
+-- and the shape is within its limits
+pub frame-fits-early : (s : Shape) (f rooms : Frame) → (overShape s || shortFrameRooms f rooms) ≡ false → FrameFits f rooms
+frame-fits-early s f rooms h = frame-fits f rooms (or-right (overShape s) _ h)
 
 pub evals-fit : (e rooms : Evals) → shortEvalRooms e rooms ≡ false → EvalsFit e rooms
 evals-fit e rooms h =
@@ -97,24 +102,36 @@ module _ {b : Blob} {s : Shape} {l : Lent} {evals words words′ : Evals} {marks
 
 -- ---- frame and evals in rooms
 
-module _ {b : Blob} {s : Shape} {t : Tables} {offset : List ℕ} (f : Frame) (m : Memory) {z : Bool} (e : z ≡ shortFrameRooms f (m .frame-rooms)) where
-  bytes-short : shortRooms f m ≡ true → WalkBytes b s t offset f m (Outcome.Refused ShortMemory) m
-  bytes-short h = record { short = λ q. (refl, refl); unpacked = λ q. clash h q; walked = λ q. clash h q }
-
-  pub frame-short : z ≡ true → WalkBytes b s t offset f m (Outcome.Refused ShortMemory) m
-  frame-short h = bytes-short (rw (sym e ∙ h))
+module _ {b : Blob} {t : Tables} {offset : List ℕ} (s : Shape) (f : Frame) (m : Memory) {z : Bool} (e : z ≡ (overShape s || shortFrameRooms f (m .frame-rooms))) where
+  -- 2, or a room of the frame
+  pub frame-short : z ≡ true → {why : Refusal} → why ≡ cond (overShape s) OverLimit ShortMemory → WalkBytes b s t offset f m (Outcome.Refused why) m
+  frame-short h {why} w =
+      let tight : overShape s ≡ false → shortFrameRooms f (m .frame-rooms) ≡ true = λ o. rw o at (sym e ∙ h) in
+      let because : (x : Refusal) → cond (overShape s) OverLimit ShortMemory ≡ x → Outcome.Refused why ≡ Outcome.Refused x = λ x q. ap Outcome.Refused (w ∙ q) in
+      record {
+        over = λ o. (because OverLimit (rw o), refl);
+        short = λ o q. (because ShortMemory (rw o), refl);
+        unpacked = λ o q. clash (tight o) (or-left _ _ q);
+        walked = λ o q. clash (tight o) (or-left _ _ q);
+      }
 
   module _ (h : z ≡ false) {w : Bool} (d : w ≡ shortEvalRooms (m .evals) (m .eval-rooms)) where
     pub evals-short : w ≡ true → WalkBytes b s t offset f m (Outcome.Refused ShortMemory) m
-    evals-short k = bytes-short (rw (sym e ∙ h, sym d ∙ k))
+    evals-short k =
+        let no : overShape s ≡ false = or-left _ _ (sym e ∙ h) in
+        let yes : shortRooms f m ≡ true = rw (or-right (overShape s) _ (sym e ∙ h), sym d ∙ k) in
+        record { over = λ o. clash o no; short = λ o q. (refl, refl); unpacked = λ o q. clash yes q; walked = λ o q. clash yes q }
 
     pub bytes-done : w ≡ false → {answer : Outcome} {m′ : Memory} → m′ .frame-rooms ≡ putFrame (frameWords f) (m .frame-rooms) → Walked b s (lentIn t (frameFronts f (m′ .frame-rooms)) offset) (m .evals) (m .eval-rooms) (m .marks) (m .slots) answer (m′ .evals) (m′ .eval-rooms) (m′ .marks) (m′ .slots) → WalkBytes b s t offset f m answer m′
     bytes-done k {answer} {m′} u g =
-        let no : shortRooms f m ≡ false = rw (sym e ∙ h, sym d ∙ k) in
+        let within : overShape s ≡ false = or-left _ _ (sym e ∙ h) in
+        let fits = or-right (overShape s) _ (sym e ∙ h) in
+        let no : shortRooms f m ≡ false = rw (fits, sym d ∙ k) in
         record {
-          short = λ q. clash q no;
-          unpacked = λ q. u;
-          walked = λ q. subst (λ (x : Frame). Walked b s (lentIn t x offset) (m .evals) (m .eval-rooms) (m .marks) (m .slots) answer (m′ .evals) (m′ .eval-rooms) (m′ .marks) (m′ .slots)) (frame-fronts-are f (m .frame-rooms) (frame-fits f (m .frame-rooms) (sym e ∙ h)) u) g;
+          over = λ o. clash o within;
+          short = λ o q. clash q no;
+          unpacked = λ o q. u;
+          walked = λ o q. subst (λ (x : Frame). Walked b s (lentIn t x offset) (m .evals) (m .eval-rooms) (m .marks) (m .slots) answer (m′ .evals) (m′ .eval-rooms) (m′ .marks) (m′ .slots)) (frame-fronts-are f (m .frame-rooms) (frame-fits f (m .frame-rooms) fits) u) g;
         }
 
 -- ---- the file

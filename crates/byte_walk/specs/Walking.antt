@@ -10,13 +10,14 @@ use lib.ListN.{length}
 use lib.Seq.{sets}
 use Rattle.ir.specs.declared.frame.Shape.{Shape}
 use Rattle.ir.specs.declared.refusal.Refusal.{Refusal}
-use Rattle.ir.specs.declared.refusal.Refusal.the-variants.{ShortMemory}
+use Rattle.ir.specs.declared.refusal.Refusal.the-variants.{OverLimit, ShortMemory}
 use Rattle.ir.specs.declared.refusal.Outcome.{Outcome}
 use Rattle.ir.specs.declared.refusal.Outcome.the-variants as Outcome
 use Rattle.ir.specs.Refusals.{saidOfOutcome}
+use Rattle.ir.specs.Shape.{overShape}
 use Rattle.values.specs.Frame.{Lent, lent}
-use Rattle.device.specs.declared.blob.BlobCounts.{BlobCounts}
-use Rattle.device.specs.Blob.{Blob}
+use Rattle.blob_rules.specs.declared.blob.BlobCounts.{BlobCounts}
+use Rattle.blob_rules.specs.Blob.{Blob}
 use Rattle.walk.specs.Walk.{WalkAnswer}
 use Rattle.stored.specs.declared.read.ReadStored.{ReadStored}
 use Rattle.stored.specs.declared.read.ReadStored.the-variants as ReadStored
@@ -25,7 +26,7 @@ use Rattle.stored.specs.Answer.{ReadAnswer}
 use Rattle.byte_words.specs.Words.{whole, wordsIn}
 use Rattle.byte_words.specs.Reading.{blobIn}
 
--- a frame's four tables, and the evals, which the walk reads and writes
+-- a frame's four tables
 pub record Frame : Type 0 where
   pub main : List ℕ
   pub aux : List ℕ
@@ -132,12 +133,13 @@ pub record Walked (b : Blob) (s : Shape) (l : Lent) (evals rooms : Evals) (marks
   pub promised : Packed b s l evals (evalWords evals) marks slots answer evals′ after marks′ slots′
   pub rooms-end : rooms′ ≡ putEvals after rooms
 
--- 1 where a room is too short for its bytes, and nothing is written; else the frame's words stand in their rooms, and all
--- else is as the walk over those words has it
+-- 2 where the shape is past its limits, then 1 where a room is too short for its bytes, and nothing is written; else the frame's
+-- words stand in their rooms, and all else is as the walk over those words has it
 pub record WalkBytes (b : Blob) (s : Shape) (t : Tables) (offset : List ℕ) (frame : Frame) (m : Memory) (answer : Outcome) (m′ : Memory) : Type 0 where
-  pub short : shortRooms frame m ≡ true → (answer ≡ Outcome.Refused ShortMemory) × (m′ ≡ m)
-  pub unpacked : shortRooms frame m ≡ false → m′ .frame-rooms ≡ putFrame (frameWords frame) (m .frame-rooms)
-  pub walked : shortRooms frame m ≡ false → Walked b s (lentIn t (frameWords frame) offset) (m .evals) (m .eval-rooms) (m .marks) (m .slots) answer (m′ .evals) (m′ .eval-rooms) (m′ .marks) (m′ .slots)
+  pub over : overShape s ≡ true → (answer ≡ Outcome.Refused OverLimit) × (m′ ≡ m)
+  pub short : overShape s ≡ false → shortRooms frame m ≡ true → (answer ≡ Outcome.Refused ShortMemory) × (m′ ≡ m)
+  pub unpacked : overShape s ≡ false → shortRooms frame m ≡ false → m′ .frame-rooms ≡ putFrame (frameWords frame) (m .frame-rooms)
+  pub walked : overShape s ≡ false → shortRooms frame m ≡ false → Walked b s (lentIn t (frameWords frame) offset) (m .evals) (m .eval-rooms) (m .marks) (m .slots) answer (m′ .evals) (m′ .eval-rooms) (m′ .marks) (m′ .slots)
 
 -- the file is read as `read_stored` reads it; its refusal is the answer, and all else stays; else the blob that was read is
 -- walked

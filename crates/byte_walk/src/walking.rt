@@ -1,14 +1,18 @@
 // The walk over bytes: a blob in stored form A, frame and evals as little-endian words.
+ghost use mathlib.Core.Bool.{cond, _||_};
 ghost use mathlib.Core.Path.{_≡_};
 ghost use Prim.Native.Nat.{_*_, _≤_};
 ghost use lib.ListN.{length};
+ghost use Rattle.ir.specs.declared.refusal.Refusal.the-variants.{OverLimit, ShortMemory};
+ghost use Rattle.ir.specs.Shape.{overShape};
 ghost use Rattle.values.specs.Frame.{lent};
 ghost use Rattle.byte_walk.specs.Walking.{frameWords, putFrame, shortFrameRooms, shortEvalRooms, tight, FrameFits, EvalsFit, Packed, Walked, WalkBytes, WalkStored};
+use blob_rules::blob::BlobCounts;
 use byte_words::words::pack64;
 use byte_words::words::unpack64;
-use device::blob::BlobCounts;
 use extension::extensions_goldilocks::Ext;
 use ir::frame::Shape;
+use ir::frame::over_shape;
 use ir::refusal::Outcome;
 use ir::refusal::Refusal;
 use stored::read::ReadStored;
@@ -43,6 +47,36 @@ fn short_frame_rooms(
         return true;
     }
     is_tight(alphas.len(), pw.len())
+}
+
+// 2, or a room of the frame that is too short.
+fn refused_early(
+    s: Shape,
+    main: &[u8],
+    aux: &[u8],
+    challenges: &[u8],
+    alphas: &[u8],
+    mw: &[u64],
+    aw: &[u64],
+    cw: &[u64],
+    pw: &[u64],
+) -> bool
+    ensures { λ r. ⌜ r ≡ (overShape s || shortFrameRooms (record { main = now (main .entry); aux = now (aux .entry); challenges = now (challenges .entry); alphas = now (alphas .entry) }) (record { main = now (mw .entry); aux = now (aw .entry); challenges = now (cw .entry); alphas = now (pw .entry) })) ⌝ }
+{
+    if over_shape(s) {
+        return true;
+    }
+    short_frame_rooms(main, aux, challenges, alphas, mw, aw, cw, pw)
+}
+
+// Which of the two it is.
+fn early_refusal(s: Shape) -> Refusal
+    ensures { λ r. ⌜ r ≡ cond (overShape s) OverLimit ShortMemory ⌝ }
+{
+    if over_shape(s) {
+        return Refusal::OverLimit;
+    }
+    Refusal::ShortMemory
 }
 
 fn short_eval_rooms(base: &[u8], ext: &[u8], bw: &[u64], xw: &[u64]) -> bool
@@ -196,7 +230,8 @@ fn walk_bytes(
 ) -> Outcome
     ensures { λ r. ⌜ WalkBytes (record { counts = c; nodes = now (nodes .entry); roots = now (roots .entry) }) s (record { nodes = now (nodes .entry); bases = now (bases .entry); exts = now (exts .entry); roots = now (roots .entry) }) (offset .limbs) (record { main = now (main .entry); aux = now (aux .entry); challenges = now (challenges .entry); alphas = now (alphas .entry) }) (record { evals = record { base = now (base .entry); ext = now (ext .entry) }; frame-rooms = record { main = now (mw .entry); aux = now (aw .entry); challenges = now (cw .entry); alphas = now (pw .entry) }; eval-rooms = record { base = now (bw .entry); ext = now (xw .entry) }; marks = now (marks .entry); slots = now (slots .entry) }) r (record { evals = record { base = now (base .exit); ext = now (ext .exit) }; frame-rooms = record { main = now (mw .exit); aux = now (aw .exit); challenges = now (cw .exit); alphas = now (pw .exit) }; eval-rooms = record { base = now (bw .exit); ext = now (xw .exit) }; marks = now (marks .exit); slots = now (slots .exit) }) ⌝ }
 {
-    if short_frame_rooms(
+    if refused_early(
+        s,
         main,
         aux,
         challenges,
@@ -206,7 +241,7 @@ fn walk_bytes(
         &cw[..],
         &pw[..],
     ) {
-        return Outcome::Refused(Refusal::ShortMemory);
+        return Outcome::Refused(early_refusal(s));
     }
     if short_eval_rooms(&base[..], &ext[..], &bw[..], &xw[..]) {
         return Outcome::Refused(Refusal::ShortMemory);

@@ -8,7 +8,7 @@ use lib.Dec.{eqb}
 use lib.ListN.{length}
 use Rattle.laws.proofs.Cases.{by-test}
 use Rattle.ir.specs.declared.refusal.Refusal.{Refusal}
-use Rattle.device.specs.declared.blob.BlobCounts.{BlobCounts}
+use Rattle.blob_rules.specs.declared.blob.BlobCounts.{BlobCounts}
 use Rattle.stored.specs.declared.read.ReadStored.{ReadStored}
 use Rattle.stored.specs.declared.read.ReadStored.the-variants as ReadStored
 use Rattle.stored.specs.declared.write.Stored.the-variants as Stored

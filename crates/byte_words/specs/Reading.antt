@@ -1,7 +1,7 @@
 -- A blob as it was read.
 -- Assumes nothing.
-use Rattle.device.specs.declared.blob.BlobCounts.{BlobCounts}
-use Rattle.device.specs.Blob.{Blob}
+use Rattle.blob_rules.specs.declared.blob.BlobCounts.{BlobCounts}
+use Rattle.blob_rules.specs.Blob.{Blob}
 use Rattle.stored.specs.Form.{Tables}
 
 -- a blob, from its counts and the rooms that it was read into

@@ -15,9 +15,9 @@ use Rattle.ir.specs.declared.refusal.Refusal.{Refusal}
 use Rattle.ir.specs.declared.refusal.Refusal.the-variants.{ShortMemory}
 use Rattle.ir.specs.declared.refusal.Outcome.{Outcome}
 use Rattle.ir.specs.declared.refusal.Outcome.the-variants as Outcome
-use Rattle.ir.specs.Program.{Program}
-use Rattle.device.specs.declared.blob.BlobCounts.{BlobCounts}
-use Rattle.device.specs.Check.{CheckAnswer}
+use Rattle.ir.specs.Program.{Program, tooManyNodes, tooManyRoots}
+use Rattle.blob_rules.specs.declared.blob.BlobCounts.{BlobCounts}
+use Rattle.blob_rules.specs.Check.{CheckAnswer}
 use Rattle.lower_parts.specs.declared.parts.Lowering.{Lowering}
 use Rattle.lower_parts.specs.declared.parts.Lowering.the-variants as Lowering
 use Rattle.lower_parts.specs.Answer.{Lists, Output, LowerAnswer}
@@ -28,7 +28,7 @@ use Rattle.stored.specs.declared.write.Stored.the-variants as Stored
 use Rattle.stored.specs.Form.{Tables}
 use Rattle.stored.specs.Answer.{put, ReadAnswer, WriteAnswer}
 use Rattle.byte_words.specs.Words.{whole}
-use Rattle.bytewise.specs.Lowering.{wordsOf, shortFor, Roomy, program, tablesOut, LowerFile, LowerStored}
+use Rattle.bytewise.specs.Lowering.{wordsOf, shortFor, refusedEarly, whyEarly, Roomy, program, tablesOut, LowerFile, LowerStored}
 use Rattle.byte_words.proofs.WordLaws.{unpacked}
 use Rattle.bytewise.specs.Checking.{CheckStored}
 use Rattle.byte_words.specs.Reading.{blobIn}
@@ -114,6 +114,10 @@ fronts t rooms =
       roots = take (whole 4 (t .roots)) (rooms .roots);
     }
 
+-- and 8 and 9 let the counts through
+pub roomy-early : (c : Counts) (t rooms : Tables) → refusedEarly c t rooms ≡ false → Roomy t rooms
+roomy-early c t rooms h = roomy t rooms (or-right (tooManyRoots c) _ (or-right (tooManyNodes c) _ h))
+
 pub still-roomy : (t rooms : Tables) {rooms′ : Tables} → Roomy t rooms → rooms′ ≡ put (wordsOf t) rooms → Roomy t rooms′
 still-roomy t rooms f e =
     let k = as-long (wordsOf t) rooms e in
@@ -130,11 +134,11 @@ fronts-are t rooms f e =
     ap (fronts t) e
     ∙ rw (unpacked 4 (t .nodes) (rooms .nodes) (f .nodes-fit) refl, unpacked 8 (t .bases) (rooms .bases) (f .bases-fit) refl, unpacked 8 (t .exts) (rooms .exts) (f .exts-fit) refl, unpacked 4 (t .roots) (rooms .roots) (f .roots-fit) refl)
 
-module _ (c : Counts) (t rooms : Tables) {lists : Lists} {out : Output} {file : List ℕ} {s : Bool} (e : s ≡ shortFor t rooms) where
-  pub lower-short : s ≡ true → LowerStored c t rooms lists out file (Stored.Refused ShortMemory) rooms lists out file
-  lower-short h =
+module _ (c : Counts) (t rooms : Tables) {lists : Lists} {out : Output} {file : List ℕ} {s : Bool} (e : s ≡ refusedEarly c t rooms) where
+  pub lower-early : s ≡ true → {why : Refusal} → why ≡ whyEarly c → LowerStored c t rooms lists out file (Stored.Refused why) rooms lists out file
+  lower-early h w =
       record {
-        short = λ q. (refl, refl, refl, refl, refl);
+        early = λ q. (ap Stored.Refused w, refl, refl, refl, refl);
         unpacked = λ q. clash (sym e ∙ h) q;
         lowering = λ q. clash (sym e ∙ h) q;
       }
@@ -142,9 +146,9 @@ module _ (c : Counts) (t rooms : Tables) {lists : Lists} {out : Output} {file : 
   pub lower-done : s ≡ false → {rooms′ : Tables} {answer : Stored} {lists′ : Lists} {out′ : Output} {file′ : List ℕ} → rooms′ ≡ put (wordsOf t) rooms → LowerFile (program c (fronts t rooms′)) lists out file answer lists′ out′ file′ → LowerStored c t rooms lists out file answer rooms′ lists′ out′ file′
   lower-done h {answer = answer} {lists′ = lists′} {out′ = out′} {file′ = file′} u f =
       record {
-        short = λ q. clash q (sym e ∙ h);
+        early = λ q. clash q (sym e ∙ h);
         unpacked = λ q. u;
-        lowering = λ q. subst (λ (x : Tables). LowerFile (program c x) lists out file answer lists′ out′ file′) (fronts-are t rooms (roomy t rooms (sym e ∙ h)) u) f;
+        lowering = λ q. subst (λ (x : Tables). LowerFile (program c x) lists out file answer lists′ out′ file′) (fronts-are t rooms (roomy-early c t rooms (sym e ∙ h)) u) f;
       }
 
 -- ---- rooms that a file was read into

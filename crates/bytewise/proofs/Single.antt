@@ -20,7 +20,7 @@ use Rattle.stored.specs.Form.{Tables}
 use Rattle.stored.specs.Answer.{WriteAnswer}
 use Rattle.stored.proofs.Single.{read-stored-single, write-stored-single}
 use Rattle.bytewise.specs.Checking.{CheckStored}
-use Rattle.bytewise.specs.Lowering.{shortFor, tablesOut, LowerFile, LowerStored}
+use Rattle.bytewise.specs.Lowering.{refusedEarly, tablesOut, LowerFile, LowerStored}
 
 module _ {s : Shape} {file : List ℕ} {rooms : Tables} {marks : List ℕ} {a a′ : Outcome} {rooms₁ rooms₂ : Tables} {marks₁ marks₂ : List ℕ} (f : CheckStored s file rooms marks a rooms₁ marks₁) (g : CheckStored s file rooms marks a′ rooms₂ marks₂) where
   check-after : (r : ReadStored) → f .read ≡ r → g .read ≡ r → rooms₂ ≡ rooms₁ → (a ≡ a′) × (marks₁ ≡ marks₂)
@@ -52,10 +52,10 @@ pub lower-stored-single : {c : Counts} {t rooms rooms₁ rooms₂ : Tables} {lis
     → LowerStored c t rooms lists out file a rooms₁ lists₁ out₁ file₁ → LowerStored c t rooms lists out file a′ rooms₂ lists₂ out₂ file₂
     → (a ≡ a′) × (rooms₁ ≡ rooms₂) × (lists₁ ≡ lists₂) × (out₁ ≡ out₂) × (file₁ ≡ file₂)
 lower-stored-single {c} {t} {rooms} {rooms₁} {rooms₂} {lists} {lists₁} {lists₂} {out} {out₁} {out₂} {file} {file₁} {file₂} {a} {a′} f g =
-    by-test (shortFor t rooms) ((a ≡ a′) × (rooms₁ ≡ rooms₂) × (lists₁ ≡ lists₂) × (out₁ ≡ out₂) × (file₁ ≡ file₂))
+    by-test (refusedEarly c t rooms) ((a ≡ a′) × (rooms₁ ≡ rooms₂) × (lists₁ ≡ lists₂) × (out₁ ≡ out₂) × (file₁ ≡ file₂))
     (λ h.
-    let m = f .short h in
-    let n = g .short h in
+    let m = f .early h in
+    let n = g .early h in
     (m .0 ∙ sym (n .0), m .1 ∙ sym (n .1), m .2 ∙ sym (n .2), m .3 ∙ sym (n .3), m .4 ∙ sym (n .4)))
     λ h.
     let r = lower-file-single (f .lowering h) (g .lowering h) in

@@ -7,8 +7,8 @@ use Rattle.ir.specs.declared.frame.Shape.{Shape}
 use Rattle.ir.specs.declared.refusal.Refusal.{Refusal}
 use Rattle.ir.specs.declared.refusal.Outcome.{Outcome}
 use Rattle.ir.specs.declared.refusal.Outcome.the-variants as Outcome
-use Rattle.device.specs.declared.blob.BlobCounts.{BlobCounts}
-use Rattle.device.specs.Check.{CheckAnswer}
+use Rattle.blob_rules.specs.declared.blob.BlobCounts.{BlobCounts}
+use Rattle.blob_rules.specs.Check.{CheckAnswer}
 use Rattle.stored.specs.declared.read.ReadStored.{ReadStored}
 use Rattle.stored.specs.declared.read.ReadStored.the-variants as ReadStored
 use Rattle.stored.specs.Form.{Tables}

@@ -1,6 +1,6 @@
 -- Lowering over bytes: a program's words are unpacked, lowered, and its blob is written in stored form A.
 -- Assumes nothing.
-use mathlib.Core.Bool.{Bool, true, false, _||_}
+use mathlib.Core.Bool.{Bool, true, false, cond, _||_}
 use mathlib.Core.List.{List}
 use mathlib.Core.Path.{_≡_}
 use Prim.Native.Nat.{ℕ, _/_, _≤_}
@@ -8,9 +8,9 @@ use lib.Dec.{ltb}
 use lib.ListN.{length}
 use Rattle.ir.specs.declared.program.Counts.{Counts}
 use Rattle.ir.specs.declared.refusal.Refusal.{Refusal}
-use Rattle.ir.specs.declared.refusal.Refusal.the-variants.{ShortMemory}
-use Rattle.ir.specs.Program.{Program}
-use Rattle.device.specs.declared.blob.BlobCounts.{BlobCounts}
+use Rattle.ir.specs.declared.refusal.Refusal.the-variants.{ShortMemory, TooManyNodes, TooManyRoots}
+use Rattle.ir.specs.Program.{Program, tooManyNodes, tooManyRoots}
+use Rattle.blob_rules.specs.declared.blob.BlobCounts.{BlobCounts}
 use Rattle.lower_parts.specs.declared.parts.Lowering.{Lowering}
 use Rattle.lower_parts.specs.declared.parts.Lowering.the-variants as Lowering
 use Rattle.lower_parts.specs.Answer.{Lists, Output, LowerAnswer}
@@ -42,7 +42,15 @@ shortFor t rooms =
     shortRooms (length (t .nodes)) (length (t .bases)) (length (t .exts)) (length (t .roots))
     (length (rooms .nodes)) (length (rooms .bases)) (length (rooms .exts)) (length (rooms .roots))
 
--- and no room has
+-- 8, 9 or 1: what is refused before a table's words are looked at
+abbrev pub refusedEarly : Counts → Tables → Tables → Bool
+refusedEarly c t rooms = tooManyNodes c || (tooManyRoots c || shortFor t rooms)
+
+-- and by which of them
+abbrev pub whyEarly : Counts → Refusal
+whyEarly c = cond (tooManyNodes c) TooManyNodes (cond (tooManyRoots c) TooManyRoots ShortMemory)
+
+-- no room has fewer words
 pub record Roomy (t rooms : Tables) : Type 0 where
   pub nodes-fit : whole 4 (t .nodes) ≤ length (rooms .nodes)
   pub bases-fit : whole 8 (t .bases) ≤ length (rooms .bases)
@@ -67,9 +75,9 @@ pub record LowerFile (p : Program) (lists : Lists) (out : Output) (file : List �
   pub refused : (why : Refusal) → lowered ≡ Lowering.Refused why → (answer ≡ Stored.Refused why) × (file′ ≡ file)
   pub written : (k : BlobCounts) → lowered ≡ Lowering.Lowered k → WriteAnswer k (tablesOut out′) file answer file′
 
--- 1 where a room is too short for its table, and nothing is written; else the tables' words stand in the rooms, and all else
+-- 8 and 9, then 1 where a room is too short for its table, and nothing is written; else the tables' words stand in the rooms, and all else
 -- is as lowering those words has it
 pub record LowerStored (c : Counts) (tables rooms : Tables) (lists : Lists) (out : Output) (file : List ℕ) (answer : Stored) (rooms′ : Tables) (lists′ : Lists) (out′ : Output) (file′ : List ℕ) : Type 0 where
-  pub short : shortFor tables rooms ≡ true → (answer ≡ Stored.Refused ShortMemory) × (rooms′ ≡ rooms) × (lists′ ≡ lists) × (out′ ≡ out) × (file′ ≡ file)
-  pub unpacked : shortFor tables rooms ≡ false → rooms′ ≡ put (wordsOf tables) rooms
-  pub lowering : shortFor tables rooms ≡ false → LowerFile (program c (wordsOf tables)) lists out file answer lists′ out′ file′
+  pub early : refusedEarly c tables rooms ≡ true → (answer ≡ Stored.Refused (whyEarly c)) × (rooms′ ≡ rooms) × (lists′ ≡ lists) × (out′ ≡ out) × (file′ ≡ file)
+  pub unpacked : refusedEarly c tables rooms ≡ false → rooms′ ≡ put (wordsOf tables) rooms
+  pub lowering : refusedEarly c tables rooms ≡ false → LowerFile (program c (wordsOf tables)) lists out file answer lists′ out′ file′

@@ -1,10 +1,14 @@
 // Lowering over bytes: a program's tables as little-endian words, its blob in stored form A.
+ghost use mathlib.Core.Bool.{_||_};
 ghost use mathlib.Core.Path.{_≡_};
+ghost use Rattle.ir.specs.Program.{tooManyNodes, tooManyRoots};
 ghost use Rattle.stored.specs.Answer.{put};
-ghost use Rattle.bytewise.specs.Lowering.{shortRooms, Roomy, wordsOf, LowerFile, LowerStored};
+ghost use Rattle.bytewise.specs.Lowering.{shortRooms, whyEarly, Roomy, wordsOf, LowerFile, LowerStored};
 use byte_words::words::unpack32;
 use byte_words::words::unpack64;
 use ir::program::Counts;
+use ir::program::too_many_nodes;
+use ir::program::too_many_roots;
 use ir::refusal::Refusal;
 use lower::lower::lower;
 use lower_parts::parts::Lowering;
@@ -34,6 +38,42 @@ fn short_rooms(
         return true;
     }
     r < roots / 4
+}
+
+// 8, 9, or a room that is too short.
+fn refused_early(
+    c: Counts,
+    nodes: usize,
+    bases: usize,
+    exts: usize,
+    roots: usize,
+    n: usize,
+    b: usize,
+    x: usize,
+    r: usize,
+) -> bool
+    ensures { λ a. ⌜ a ≡ (tooManyNodes c || (tooManyRoots c || shortRooms nodes bases exts roots n b x r)) ⌝ }
+{
+    if too_many_nodes(c) {
+        return true;
+    }
+    if too_many_roots(c) {
+        return true;
+    }
+    short_rooms(nodes, bases, exts, roots, n, b, x, r)
+}
+
+// Which of the three it is.
+fn early_refusal(c: Counts) -> Refusal
+    ensures { λ r. ⌜ r ≡ whyEarly c ⌝ }
+{
+    if too_many_nodes(c) {
+        return Refusal::TooManyNodes;
+    }
+    if too_many_roots(c) {
+        return Refusal::TooManyRoots;
+    }
+    Refusal::ShortMemory
 }
 
 fn unpack_tables(
@@ -96,8 +136,8 @@ fn lower_file(
     }
 }
 
-// 1 where a room is too short for its table's words, then lowering's own: 8, 9, 1, 7, 10; then 10 where the file has no
-// room. The answer has the file's length in bytes.
+// Lowering's own: 8, 9, 1, also where a room is too short for its table's words, 7, 10; then 10 where the file has no room.
+// The answer has the file's length in bytes.
 pub fn lower_stored(
     c: Counts,
     nodes: &[u8],
@@ -121,7 +161,8 @@ pub fn lower_stored(
 ) -> Stored
     ensures { λ a. ⌜ LowerStored c (record { nodes = now (nodes .entry); bases = now (bases .entry); exts = now (exts .entry); roots = now (roots .entry) }) (record { nodes = now (n .entry); bases = now (b .entry); exts = now (x .entry); roots = now (r .entry) }) (record { used = now (used .entry); last = now (last .entry); root = now (root .entry); slot = now (slot .entry); free = now (free .entry) }) (record { nodes = now (blob .entry); bases = now (narrow .entry); exts = now (wide .entry); roots = now (ends .entry) }) (now (file .entry)) a (record { nodes = now (n .exit); bases = now (b .exit); exts = now (x .exit); roots = now (r .exit) }) (record { used = now (used .exit); last = now (last .exit); root = now (root .exit); slot = now (slot .exit); free = now (free .exit) }) (record { nodes = now (blob .exit); bases = now (narrow .exit); exts = now (wide .exit); roots = now (ends .exit) }) (now (file .exit)) ⌝ }
 {
-    if short_rooms(
+    if refused_early(
+        c,
         nodes.len(),
         bases.len(),
         exts.len(),
@@ -131,7 +172,7 @@ pub fn lower_stored(
         x.len(),
         r.len(),
     ) {
-        return Stored::Refused(Refusal::ShortMemory);
+        return Stored::Refused(early_refusal(c));
     }
     unpack_tables(nodes, bases, exts, roots, n, b, x, r);
     let n_words = nodes.len() / 4;

@@ -19,11 +19,11 @@ use Rattle.ir.specs.declared.refusal.Place.{Place}
 use Rattle.ir.specs.declared.refusal.Place.the-variants.{At, Nowhere}
 use Rattle.ir.specs.Shape.{overShape}
 use Rattle.ir.specs.Refusals.{Said, rowAt, first, gives, saidOfOutcome, placeOf}
-use Rattle.device.specs.declared.blob.BlobCounts.{BlobCounts}
-use Rattle.device.specs.Blob.{Blob, instrAt, isExt, slotOf, tags, kinds}
-use Rattle.device.specs.Check.{Filled, nodeOk, rootOk, filledAfter, illegal, extRoot, legalRows, slotCount, shortCheck, cleared, CheckAnswer}
-use Rattle.device.specs.Marks.{marked, Alike, NodesChecked, rootRows, Searched, LegalChecked}
-use Rattle.device.proofs.MarkLaws.{badNode, alike-filled, cleared-again, cleared-rest}
+use Rattle.blob_rules.specs.declared.blob.BlobCounts.{BlobCounts}
+use Rattle.blob_rules.specs.Blob.{Blob, instrAt, isExt, slotOf, tags, kinds}
+use Rattle.blob_rules.specs.Check.{Filled, nodeOk, rootOk, filledAfter, illegal, extRoot, legalRows, slotCount, shortCheck, cleared, CheckAnswer}
+use Rattle.blob_rules.specs.Marks.{marked, Alike, NodesChecked, rootRows, Searched, LegalChecked}
+use Rattle.blob_rules.proofs.MarkLaws.{badNode, alike-filled, cleared-again, cleared-rest}
 
 -- ---- the search
 

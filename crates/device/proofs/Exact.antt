@@ -21,10 +21,10 @@ use Rattle.extension.specs.Tower.{Tower}
 use Rattle.ir.specs.declared.frame.Shape.{Shape}
 use Rattle.ir.specs.Words.{mainOf, offsetOf, rowOf}
 use Rattle.values.specs.Values.{Value, base, ext, toExt}
-use Rattle.device.specs.declared.blob.BlobCounts.{BlobCounts}
-use Rattle.device.specs.Blob.{Instr, instrAt, baseSlots, extSlots, numBase, isExt, slotOf, kindOf, payloadOf, Table, base-consts, ext-consts, challenges, alphas, sizeOf, extTable, Binary, Form, entry, cell, offset, binary, negation, embedding, Kind, base-slot, ext-slot, of, the-offset}
+use Rattle.blob_rules.specs.declared.blob.BlobCounts.{BlobCounts}
+use Rattle.blob_rules.specs.Blob.{Instr, instrAt, baseSlots, extSlots, numBase, isExt, slotOf, kindOf, payloadOf, Table, base-consts, ext-consts, challenges, alphas, sizeOf, extTable, Binary, Form, entry, cell, offset, binary, negation, embedding, Kind, base-slot, ext-slot, of, the-offset}
 use Rattle.device.specs.StepRule.{Contents, Slots, contentOf, heldBy, onlyBase, operand, baseOperand, extOperand, op₀, op₁, cellOf, valueBy, valueOf, put, step, slotsAfter, rootHeld, rootValue, stopsAt}
-use Rattle.device.specs.Check.{Filled, slotIn, slotOfClass, filledIn, kindOk, operandOk, cellOk, formOk, nodeOk, mark, filledAfter, rootOk, illegal, extRoot}
+use Rattle.blob_rules.specs.Check.{Filled, slotIn, slotOfClass, filledIn, kindOk, operandOk, cellOk, formOk, nodeOk, mark, filledAfter, rootOk, illegal, extRoot}
 
 -- ---- of tests alone
 

@@ -8,8 +8,8 @@ use Rattle.ir.specs.declared.frame.Shape.{Shape}
 use Rattle.ir.specs.declared.refusal.Outcome.{Outcome}
 use Rattle.ir.specs.Refusals.{inOrder}
 use Rattle.ir.proofs.Single.{outcome-single}
-use Rattle.device.specs.Blob.{Blob}
-use Rattle.device.specs.Check.{blobOrder, checkRows, CheckAnswer}
+use Rattle.blob_rules.specs.Blob.{Blob}
+use Rattle.blob_rules.specs.Check.{blobOrder, checkRows, CheckAnswer}
 
 pub check-blob-single : {b : Blob} {s : Shape} {r r′ : Outcome} {old new new′ : List ℕ} → CheckAnswer b s r old new → CheckAnswer b s r′ old new′ → (r ≡ r′) × (new ≡ new′)
 check-blob-single {r = r} {r′ = r′} f g = (outcome-single r r′ (f .said ∙ sym (g .said)), f .marks-end ∙ sym (g .marks-end))

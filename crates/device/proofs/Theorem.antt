@@ -20,13 +20,13 @@ use Rattle.ir.specs.declared.frame.Shape.{Shape}
 use Rattle.ir.specs.Shape.{overShape}
 use Rattle.ir.specs.Refusals.{Said, Row, rowAt, found, first, gives}
 use Rattle.ir.proofs.RefusalLaws.{done-quiet, not-found}
-use Rattle.device.specs.declared.blob.BlobCounts.{BlobCounts}
-use Rattle.device.specs.Blob.{Blob, Instr, instrAt, numBase, isExt, kindOf, tags, kinds}
+use Rattle.blob_rules.specs.declared.blob.BlobCounts.{BlobCounts}
+use Rattle.blob_rules.specs.Blob.{Blob, Instr, instrAt, numBase, isExt, kindOf, tags, kinds}
 use Rattle.device.specs.StepRule.{Contents, stopsAt}
-use Rattle.device.specs.Check.{Filled, slotIn, operandOk, formOk, nodeOk, filledAfter, illegal, extRoot, shortCheck, checkRows, legalRows}
-use Rattle.device.proofs.CheckLaws.{operand-unknown, node-unknown, node-by}
+use Rattle.blob_rules.specs.Check.{Filled, slotIn, operandOk, formOk, nodeOk, filledAfter, illegal, extRoot, shortCheck, checkRows, legalRows}
+use Rattle.blob_rules.proofs.CheckLaws.{operand-unknown, node-unknown, node-by}
 use Rattle.device.proofs.Exact.{exact-11, exact-12, passes-through}
-use Rattle.device.proofs.MarkLaws.{badNode}
+use Rattle.blob_rules.proofs.MarkLaws.{badNode}
 
 module _ {B X : Type 0} (K : Tower B X) (u : Contents B X) (b : Blob) (s : Shape) where
   -- where the rule stops, with num_base as given

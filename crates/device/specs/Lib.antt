@@ -1,5 +1,2 @@
--- What a blob is, the step rule, and what the calls on blobs promise.
-pub mod Blob
-pub mod Check
-pub mod Marks
+-- The step rule.
 pub mod StepRule

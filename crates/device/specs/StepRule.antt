@@ -31,8 +31,8 @@ use Rattle.extension.specs.Tower.{Tower}
 use Rattle.ir.specs.declared.frame.Shape.{Shape}
 use Rattle.ir.specs.Words.{mainOf, offsetOf, rowOf}
 use Rattle.values.specs.Values.{Value, base, ext, toExt}
-use Rattle.device.specs.declared.blob.BlobCounts.{BlobCounts}
-use Rattle.device.specs.Blob.{Instr, instrAt, Blob, baseSlots, extSlots, isExt, slotOf, kindOf, payloadOf, Table, base-consts, ext-consts, challenges, alphas, sizeOf, Binary, plus, minus, times, Form, entry, cell, offset, binary, negation, embedding, Kind, base-slot, ext-slot, of, the-offset}
+use Rattle.blob_rules.specs.declared.blob.BlobCounts.{BlobCounts}
+use Rattle.blob_rules.specs.Blob.{Instr, instrAt, Blob, baseSlots, extSlots, isExt, slotOf, kindOf, payloadOf, Table, base-consts, ext-consts, challenges, alphas, sizeOf, Binary, plus, minus, times, Form, entry, cell, offset, binary, negation, embedding, Kind, base-slot, ext-slot, of, the-offset}
 
 -- what constants, cells by step and column, and uniforms hold
 pub record Contents (B X : Type 0) : Type 0 where
@@ -101,12 +101,13 @@ module _ {B X : Type 0} (kinds : List Kind) (c : BlobCounts) (s : Shape) (u : Co
 -- ---- a node
 
 module _ {B X : Type 0} (K : Tower B X) where
-  -- an operation of the base field, and of the extension
+  -- an operation of the base field
   abbrev pub op₀ : Binary → B → B → B
   op₀ plus = K .add₀
   op₀ minus = K .sub₀
   op₀ times = K .mul₀
 
+  -- and of the extension
   abbrev pub op₁ : Binary → X → X → X
   op₁ plus = K .add₁
   op₁ minus = K .sub₁
@@ -124,6 +125,7 @@ module _ {B X : Type 0} (K : Tower B X) (tags : List Form) (kinds : List Kind) (
   abbrev in₀ : Slots B X → ℕ → Option B
   in₀ = baseOperand kinds c s u
 
+  -- and of an extension result
   abbrev in₁ : Slots B X → ℕ → Option X
   in₁ = extOperand kinds c s u K
 

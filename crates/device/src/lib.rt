@@ -1,3 +1,2 @@
 // The blob, after device.rs: its words, and the check that is exact.
-pub mod blob;
 pub mod check;

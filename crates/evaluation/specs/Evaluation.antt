@@ -56,7 +56,8 @@ rootDim nodes roots c = nodeAt nodes (getD roots c 0) .dim
 
 -- ---- the plain evaluator
 
--- 14: base_evals has the smaller of num_base and the root count; ext_evals three words a root, if any is at or past num_base
+-- 14: base_evals has fewer words than the smaller of num_base and the root count; or a root is at or past num_base, and ext_evals
+-- has fewer than three words a root
 unfoldable pub shortEvals : Counts → ℕ → ℕ → Bool
 shortEvals c base ext = ltb base (min (numBase c) (c .roots)) || (ltb (numBase c) (c .roots) && ltb ext (3 * c .roots))
 
@@ -105,7 +106,7 @@ rowRows c width asked l m nodes roots = memoryRows c (rowShape width) 1 l ++ row
 
 -- ---- what an inner function asks: no public promise cites it
 
--- counts and tables that 8, 9 and 1 let through
+-- counts that 9 lets through, and nodes and roots as long as the counts say
 pub record TablesOk (c : Counts) (nodes roots : ℕ) : Type 0 where
   pub few-roots : tooManyRoots c ≡ false
   pub nodes-long : 4 * c .nodes ≤ nodes

@@ -1,3 +1,3 @@
--- What the contracts of the field cite, the marked sums, and the tower.
+-- What the contracts of the field cite.
 pub mod Base
 pub mod Wide

@@ -7,8 +7,8 @@ use Rattle.ir.specs.declared.frame.Shape.{Shape}
 use Rattle.ir.specs.declared.refusal.Outcome.{Outcome}
 use Rattle.ir.specs.Refusals.{saidOfOutcome}
 use Rattle.values.specs.Frame.{Lent}
-use Rattle.device.specs.Blob.{Blob}
-use Rattle.device.specs.Check.{CheckAnswer}
+use Rattle.blob_rules.specs.Blob.{Blob}
+use Rattle.blob_rules.specs.Check.{CheckAnswer}
 use Rattle.device.proofs.Single.{check-blob-single}
 use Rattle.walk.specs.Walk.{WalkAnswer}
 use Rattle.walk.proofs.Single.{walk-single}

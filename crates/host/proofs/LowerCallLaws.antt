@@ -9,7 +9,7 @@ use Rattle.ir.specs.declared.refusal.Refusal.{Refusal}
 use Rattle.ir.specs.Refusals.{saidOf}
 use Rattle.ir.specs.Program.{Program}
 use Rattle.ir.proofs.RefusalLaws.{refusal-number}
-use Rattle.device.specs.declared.blob.BlobCounts.{BlobCounts}
+use Rattle.blob_rules.specs.declared.blob.BlobCounts.{BlobCounts}
 use Rattle.lower_parts.specs.declared.parts.Lowering.{Lowering}
 use Rattle.lower_parts.specs.declared.parts.Lowering.the-variants.{Lowered, Refused}
 use Rattle.lower_parts.specs.Answer.{Lists, Output, saidOfLowering, lowerSaid, LowerAnswer}

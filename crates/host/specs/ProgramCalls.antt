@@ -8,7 +8,7 @@ use Rattle.evaluation.specs.declared.evals.Evaluated.{Evaluated}
 use Rattle.evaluation.specs.Evaluation.{saidOfEvaluated}
 use Rattle.host_answer.specs.Answer.{answerOf, valueOnDone}
 
--- the same of a call that hands a base value out
+-- as `Called` of host_answer, of a call that hands a base value out
 pub record CalledBase (P : Evaluated → Type 0) (answer old new : ℕ) : Type 0 where
   pub outcome : Evaluated
   pub promised : P outcome

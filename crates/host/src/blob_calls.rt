@@ -2,7 +2,7 @@
 // place that it names.
 ghost use mathlib.Core.List.{[], _∷_};
 ghost use Rattle.values.specs.Frame.{lent};
-ghost use Rattle.device.specs.Check.{CheckAnswer};
+ghost use Rattle.blob_rules.specs.Check.{CheckAnswer};
 ghost use Rattle.walk.specs.Walk.{WalkAnswer};
 ghost use Rattle.host_answer.specs.Called.{Called};
 ghost use Rattle.host_answer.specs.Numbers.{shape, blobCounts, blob};

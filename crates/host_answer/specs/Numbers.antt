@@ -4,8 +4,8 @@ use Prim.Native.Nat.{ℕ}
 use Rattle.ir.specs.declared.program.Counts.{Counts}
 use Rattle.ir.specs.declared.frame.Shape.{Shape}
 use mathlib.Core.List.{List}
-use Rattle.device.specs.declared.blob.BlobCounts.{BlobCounts}
-use Rattle.device.specs.Blob.{Blob}
+use Rattle.blob_rules.specs.declared.blob.BlobCounts.{BlobCounts}
+use Rattle.blob_rules.specs.Blob.{Blob}
 
 -- a program's counts
 abbrev pub counts : (n b x r leading : ℕ) → Counts

@@ -1,7 +1,7 @@
 // The library's structs, from the numbers that a call is given.
 ghost use mathlib.Core.Path.{_≡_};
 ghost use Rattle.host_answer.specs.Numbers.{counts, shape, blobCounts};
-use device::blob::BlobCounts;
+use blob_rules::blob::BlobCounts;
 use ir::frame::Shape;
 use ir::program::Counts;
 

@@ -16,11 +16,9 @@ use Rattle.builder.specs.Roots.{Rooting}
 use Rattle.host_answer.specs.Answer.{answerOf, valueOnDone}
 use Rattle.host_handle.specs.Handles.{Handed}
 
--- ---- what the calls are given
-
 -- ---- calls that make a node
 
--- and nodes, places and their count at exit are the outcome's
+-- the handle, as `Handed` of host_handle has it; nodes, places and their count at exit are the outcome's
 pub record HandsNode (o : Built) (exit : Table) (answer id id′ dim dim′ : ℕ) : Type 0 where
   pub handed : Handed (o .said) answer id id′ dim dim′
   pub table : exit ≡ o .after

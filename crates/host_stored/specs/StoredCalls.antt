@@ -8,7 +8,7 @@ use lib.Dec.{eqb, ltb}
 use lib.ListN.{length}
 use lib.Seq.{sets}
 use Rattle.ir.specs.Refusals.{Said, row, first, gives}
-use Rattle.device.specs.declared.blob.BlobCounts.{BlobCounts}
+use Rattle.blob_rules.specs.declared.blob.BlobCounts.{BlobCounts}
 use Rattle.stored.specs.Form.{Tables, stored, countsIn, tablesIn}
 use Rattle.stored.specs.Answer.{writeSaid, readSaid, put}
 use Rattle.listing.specs.Listing.{blobList}

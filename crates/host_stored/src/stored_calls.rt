@@ -1,7 +1,7 @@
 // Form A as calls: a blob written, a file read, and its listing. An answer is one u64: the number of document 01's table.
 ghost use Rattle.host_answer.specs.Numbers.{blobCounts};
 ghost use Rattle.host_stored.specs.StoredCalls.{tables, WritesFile, ReadsFile, ListsFile};
-use device::blob::BlobCounts;
+use blob_rules::blob::BlobCounts;
 use host_answer::answer::coded_refusal;
 use ir::refusal::Refusal;
 use listing::listing::list_stored;

@@ -52,7 +52,7 @@ counts = record { nodes = 10; bases = 2; exts = 0; roots = 2; «num_base» = 1 }
 unfoldable pub shape : Shape
 shape = record { steps = 2; main = 1; aux = 3; challenges = 1; alphas = 0 }
 
--- what is lent for writing: base_evals, ext_evals, and a room of four words a node
+-- base evals as lent
 unfoldable pub base : List ℕ
 base = 7 ∷ []
 

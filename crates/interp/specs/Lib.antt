@@ -1,2 +1,2 @@
--- What the evaluators' contracts cite, and program E.
+-- Document 01's program E, evaluated.
 pub mod ExampleE

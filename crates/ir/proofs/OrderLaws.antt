@@ -1,4 +1,4 @@
--- The rows of each call stand in document 01's one order.
+-- The rows of the program check stand in document 01's one order.
 -- Assumes nothing.
 use mathlib.Core.Bool.{true}
 use mathlib.Core.Path.{_≡_, refl}

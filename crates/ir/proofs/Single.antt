@@ -1,4 +1,4 @@
--- Each call's promise leaves one answer and one memory.
+-- A refusal is known by what it says, and the promise of the program check leaves one answer.
 -- Assumes nothing.
 use mathlib.Core.Bool.{false, cond}
 use mathlib.Core.Path.{_≡_, refl, sym, ap, _∙_}

@@ -19,7 +19,7 @@ pub record Program : Type 0 where
   pub exts : List ℕ
   pub roots : List ℕ
 
--- how many leading constraints are base
+-- num_base, as the caller has it: constraints below it go to base_evals
 abbrev pub numBase : Counts → ℕ
 numBase c = c .«num_base»
 

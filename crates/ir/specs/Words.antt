@@ -60,7 +60,7 @@ mul = 8
 abbrev pub neg : ℕ
 neg = 9
 
--- tag 10: a base value as an extension value
+-- tag 10: a value as an extension value, also one that is
 abbrev pub embed : ℕ
 embed = 10
 

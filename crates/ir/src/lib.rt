@@ -1,5 +1,4 @@
-// The program, after ir.rs: node words, counts, refusals, the program check, the columns read at the next row, the shape
-// of a frame, and words as bytes.
+// The program, after ir.rs: node words, counts, refusals, the program check and the shape of a frame.
 pub mod frame;
 pub mod node;
 pub mod program;

@@ -21,7 +21,7 @@ use super::refusal::Outcome;
 use super::refusal::Place;
 use super::refusal::Refusal;
 
-// What a program's tables hold, and how many leading constraints are base.
+// What a program's tables hold, and num_base as the caller has it.
 pub struct Counts {
     pub nodes: usize,
     pub bases: usize,

@@ -14,7 +14,7 @@ use borrow.Author.Tests.{lt-ltb, le-ltb}
 use Rattle.laws.proofs.Cases.{by-test}
 use Rattle.laws.proofs.Parts.{sets-append}
 use Rattle.bytes.specs.Bytes.{leValue}
-use Rattle.device.specs.declared.blob.BlobCounts.{BlobCounts}
+use Rattle.blob_rules.specs.declared.blob.BlobCounts.{BlobCounts}
 use Rattle.stored.specs.Form.{words, belowP, size, countsIn, badFraming, tablesIn}
 use Rattle.stored.specs.Answer.{countsOf}
 use Rattle.listing.specs.Listing.{digits, decimal, ending, numbers, line, lines, blobName, nodeName, constName, extName, rootName, endLine, refusedName, listing, blobList, Listable, Puts}

@@ -5,7 +5,7 @@ use mathlib.Core.List.{List, [], _∷_}
 use mathlib.Core.Path.{_≡_, refl}
 use Prim.Native.Nat.{ℕ}
 use lib.ListN.{length, drop}
-use Rattle.device.specs.declared.blob.BlobCounts.{BlobCounts}
+use Rattle.blob_rules.specs.declared.blob.BlobCounts.{BlobCounts}
 use Rattle.listing.specs.Listing.{decimal, listing, blobList}
 use Rattle.stored.specs.Form.{Tables, words, stored, countsIn, badFraming, tablesIn}
 
@@ -50,7 +50,7 @@ file =
     ∷ 1 ∷ 0 ∷ 0 ∷ 0 ∷ 2 ∷ 0 ∷ 0 ∷ 0 ∷ 1 ∷ 0 ∷ 0 ∷ 0 ∷ 34 ∷ 0 ∷ 0 ∷ 0
     ∷ []
 
--- its file
+-- E is stored as that file
 pub stores : stored counts tables ≡ file
 unfolding counts tables file
 stores = refl
@@ -65,7 +65,7 @@ pub file-trailer : words 4 8 (drop 136 file) ≡ 7 ∷ 2 ∷ 0 ∷ 2 ∷ 1 ∷ 2
 unfolding file
 file-trailer = refl
 
--- and it is read back
+-- its framing is right
 pub file-framed : badFraming file ≡ false
 unfolding file
 file-framed = refl

@@ -8,7 +8,7 @@ use Prim.Native.Nat.{ℕ, zero, suc, _+_, _/_, _%_, _≤_}
 use lib.Dec.{ltb}
 use lib.ListN.{length, take, drop}
 use lib.Seq.{sets}
-use Rattle.device.specs.declared.blob.BlobCounts.{BlobCounts}
+use Rattle.blob_rules.specs.declared.blob.BlobCounts.{BlobCounts}
 use Rattle.stored.specs.Form.{Tables, size, countsIn, badFraming, tablesIn}
 use Rattle.stored.specs.Answer.{countsOf}
 

@@ -1,5 +1,5 @@
--- Which nodes of a program are emitted, and when a slot may be given back: document 01's liveness, and what the scan asks
--- of any.
+-- Which nodes of a program are emitted, and when a slot may be given back: document 01's liveness, and what the theorem
+-- of lowering asks of any.
 -- Assumes nothing.
 use mathlib.Core.Bool.{Bool, true, false, cond, not, _&&_, _||_}
 use mathlib.Core.List.{List, [], _∷_}
@@ -57,8 +57,8 @@ module _ (c : Counts) (nodes roots : List ℕ) where
         pinned = isRoot c roots;
       }
 
--- what the scan asks of a liveness: roots are emitted and never give their slot back; an operand of an emitted node is emitted
--- or a uniform leaf; no emitted reader comes after the last use
+-- what `AnyLivenessIsFaithful` asks of a liveness: roots are emitted and never give their slot back; an operand of an emitted node
+-- is emitted or a uniform leaf; no emitted reader comes after the last use
 pub record Sound (c : Counts) (nodes roots : List ℕ) (v : Liveness) : Type 0 where
   pub root-emitted : (r : ℕ) → r < c .roots → v .emitted (getD roots r 0) ≡ true
   pub root-pinned : (r : ℕ) → r < c .roots → v .pinned (getD roots r 0) ≡ true

@@ -18,7 +18,7 @@ use Rattle.ir.specs.Refusals.{Said, gives, refuses, saidOf}
 use Rattle.ir.specs.Program.{Program, tooManyNodes, tooManyRoots, shortTables, illFormed}
 use Rattle.ir.proofs.ProgramLaws.{few, few-roots, long}
 use Rattle.ir.proofs.WellFormedLaws.{well-formed}
-use Rattle.device.specs.Check.{cleared}
+use Rattle.blob_rules.specs.Check.{cleared}
 use Rattle.lower_parts.specs.declared.parts.Lowering.{Lowering}
 use Rattle.lower_parts.specs.declared.parts.Lowering.the-variants.{Lowered, Refused}
 use Rattle.lower_parts.specs.Lower.{blobOf}

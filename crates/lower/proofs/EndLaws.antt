@@ -13,8 +13,8 @@ use Rattle.laws.proofs.Tabulate.{length-tabulate}
 use Rattle.ir.specs.declared.program.Counts.{Counts}
 use Rattle.ir.specs.Refusals.{gives, refuses}
 use Rattle.ir.specs.Program.{Program}
-use Rattle.device.specs.declared.blob.BlobCounts.{BlobCounts}
-use Rattle.device.specs.Check.{cleared}
+use Rattle.blob_rules.specs.declared.blob.BlobCounts.{BlobCounts}
+use Rattle.blob_rules.specs.Check.{cleared}
 use Rattle.lower_parts.specs.declared.parts.Lowering.{Lowering}
 use Rattle.lower_parts.specs.declared.parts.Lowering.the-variants.{Lowered, Refused}
 use Rattle.liveness.specs.Liveness.{live}

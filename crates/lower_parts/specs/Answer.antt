@@ -8,8 +8,8 @@ use lib.Dec.{eqb, ltb}
 use lib.ListN.{length, drop}
 use Rattle.ir.specs.Program.{Program, tooManyNodes, tooManyRoots, shortProgram, illFormed}
 use Rattle.ir.specs.Refusals.{Said, Row, row, rowAt, first, gives, saidOf}
-use Rattle.device.specs.declared.blob.BlobCounts.{BlobCounts}
-use Rattle.device.specs.Check.{cleared}
+use Rattle.blob_rules.specs.declared.blob.BlobCounts.{BlobCounts}
+use Rattle.blob_rules.specs.Check.{cleared}
 use Rattle.lower_parts.specs.declared.parts.Lowering.{Lowering}
 use Rattle.lower_parts.specs.declared.parts.Lowering.the-variants.{Lowered, Refused}
 use Rattle.liveness.specs.Liveness.{live}

@@ -8,7 +8,7 @@ use Rattle.field.specs.Base.{p}
 use Rattle.ir.specs.declared.program.Counts.{Counts}
 use Rattle.ir.specs.Words.{nodeAt}
 use Rattle.ir.specs.Program.{numBase}
-use Rattle.device.specs.Blob.{Blob}
+use Rattle.blob_rules.specs.Blob.{Blob}
 use Rattle.liveness.specs.Liveness.{Liveness}
 use Rattle.scan.specs.Scan.{slotWord, scan, flat}
 

@@ -27,7 +27,7 @@ use Rattle.ir.specs.Words.{Node, nodeAt, mainOf, offsetOf}
 use Rattle.ir.specs.WellFormed.{NodeFacts, WellFormed}
 use Rattle.values.specs.Values.{Value, base, ext, Leaves, leafValue}
 use Rattle.values.specs.Frame.{Lent, word, triple, leaves, outside, cellOutside, nodeOutside, proverStrides, frameLimits}
-use Rattle.device.specs.declared.blob.BlobCounts.{BlobCounts}
+use Rattle.blob_rules.specs.declared.blob.BlobCounts.{BlobCounts}
 use Rattle.slots.specs.Trace.{rowAt, contents}
 use Rattle.lower_parts.specs.Answer.{over}
 use Rattle.scan.proofs.WordLaws.{by-leaf}

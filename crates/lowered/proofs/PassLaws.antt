@@ -27,10 +27,10 @@ use Rattle.ir.specs.Refusals.{Said, first, gives}
 use Rattle.ir.specs.WellFormed.{WellFormed}
 use Rattle.values.specs.Values.{Value}
 use Rattle.values.proofs.RunLaws.{valueAt}
-use Rattle.device.specs.declared.blob.BlobCounts.{BlobCounts}
-use Rattle.device.specs.Blob.{Blob, instrAt, isExt, tags, kinds}
+use Rattle.blob_rules.specs.declared.blob.BlobCounts.{BlobCounts}
+use Rattle.blob_rules.specs.Blob.{Blob, instrAt, isExt, tags, kinds}
 use Rattle.device.specs.StepRule.{Contents, Slots, step, slotsAfter, rootHeld, rootValue, stopsAt}
-use Rattle.device.specs.Check.{legalRows}
+use Rattle.blob_rules.specs.Check.{legalRows}
 use Rattle.device.proofs.Theorem.{passes}
 use Rattle.liveness.specs.Liveness.{Liveness, Sound}
 use Rattle.scan.specs.Scan.{scan, flat, slotWord}

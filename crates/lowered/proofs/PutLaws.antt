@@ -14,8 +14,8 @@ use Rattle.laws.specs.Options.{after, on1, onlyIf}
 use Rattle.extension.specs.Tower.{Tower}
 use Rattle.ir.specs.declared.frame.Shape.{Shape}
 use Rattle.values.specs.Values.{Value, base, ext, classOf}
-use Rattle.device.specs.declared.blob.BlobCounts.{BlobCounts}
-use Rattle.device.specs.Blob.{Instr, instrAt, baseSlots, extSlots, isExt, slotOf, Form, Kind}
+use Rattle.blob_rules.specs.declared.blob.BlobCounts.{BlobCounts}
+use Rattle.blob_rules.specs.Blob.{Instr, instrAt, baseSlots, extSlots, isExt, slotOf, Form, Kind}
 use Rattle.device.specs.StepRule.{Contents, Slots, put, step, slotsAfter, rootHeld}
 use Rattle.scan.specs.Scan.{slotWord, flat}
 use Rattle.scan.proofs.SlotLaws.{upd-same, upd-other}

@@ -18,8 +18,8 @@ use Rattle.ir.specs.declared.frame.Shape.{Shape}
 use Rattle.ir.specs.Words.{Node, nodeAt}
 use Rattle.values.specs.Values.{Value, Leaves, leafValue, nodeValue, values}
 use Rattle.evaluation.specs.Evals.{baseWord, extWords, baseEvals, extEvals}
-use Rattle.device.specs.declared.blob.BlobCounts.{BlobCounts}
-use Rattle.device.specs.Blob.{Instr, instrAt, Form, Kind}
+use Rattle.blob_rules.specs.declared.blob.BlobCounts.{BlobCounts}
+use Rattle.blob_rules.specs.Blob.{Instr, instrAt, Form, Kind}
 use Rattle.device.specs.StepRule.{Contents, Slots, step, slotsAfter}
 use Rattle.lower_parts.specs.Answer.{over}
 

@@ -21,8 +21,8 @@ use Rattle.ir.specs.WellFormed.{NodeFacts, WellFormed}
 use Rattle.values.specs.Values.{Value, base, ext, classOf, toExt, binop, unop, leafValue, operationValue, nodeValue, values}
 use Rattle.values.proofs.ClassLaws.{class-is-dim}
 use Rattle.values.proofs.RunLaws.{valueAt, value-stays, value-computed}
-use Rattle.device.specs.declared.blob.BlobCounts.{BlobCounts}
-use Rattle.device.specs.Blob.{Instr, isExt, Binary, plus, minus, times, binary, tags, kinds}
+use Rattle.blob_rules.specs.declared.blob.BlobCounts.{BlobCounts}
+use Rattle.blob_rules.specs.Blob.{Instr, isExt, Binary, plus, minus, times, binary, tags, kinds}
 use Rattle.device.specs.StepRule.{Contents, Slots, operand, op₀, op₁, valueOf, step, slotsAfter, rootHeld}
 use Rattle.device.proofs.Theorem.{by-operation}
 use Rattle.liveness.specs.Liveness.{has, operands, isUniform, Liveness, Sound}

@@ -33,10 +33,10 @@ use Rattle.evaluation.specs.Evals.{baseEvals, extEvals}
 use Rattle.evaluation.specs.Evaluation.{lengths, ProverAnswer}
 use Rattle.evaluation.specs.Evaluation as Evaluation
 use Rattle.values.proofs.RunLaws.{valueAt, value-stays}
-use Rattle.device.specs.declared.blob.BlobCounts.{BlobCounts}
-use Rattle.device.specs.Blob.{Blob, instrAt, tags, kinds}
+use Rattle.blob_rules.specs.declared.blob.BlobCounts.{BlobCounts}
+use Rattle.blob_rules.specs.Blob.{Blob, instrAt, tags, kinds}
 use Rattle.device.specs.StepRule.{Contents, Slots, slotsAfter, rootHeld}
-use Rattle.device.specs.Check.{shortCheck, checkRows, legalRows, slotCount, CheckAnswer}
+use Rattle.blob_rules.specs.Check.{shortCheck, checkRows, legalRows, slotCount, CheckAnswer}
 use Rattle.slots.specs.Slots.{slotWords}
 use Rattle.slots.specs.Trace.{contents}
 use Rattle.walk.specs.Walk.{shortFrame, shortWalk, shortEvals, frameLengths, memoryRows, walkRows, valueOr, slotsOr, finalSlots, rootValues, WalkAnswer}

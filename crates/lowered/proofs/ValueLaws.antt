@@ -15,8 +15,8 @@ use Rattle.ir.specs.declared.frame.Shape.{Shape}
 use Rattle.ir.specs.Words.{mainOf, offsetOf}
 use Rattle.ir.specs.Program.{joined}
 use Rattle.values.specs.Values.{Value, base, ext, classOf, Leaves, toExt, binop, unop, leafValue}
-use Rattle.device.specs.declared.blob.BlobCounts.{BlobCounts}
-use Rattle.device.specs.Blob.{Instr, isExt, kindOf, payloadOf, Binary, Form, binary, negation, embedding, tags, kinds}
+use Rattle.blob_rules.specs.declared.blob.BlobCounts.{BlobCounts}
+use Rattle.blob_rules.specs.Blob.{Instr, isExt, kindOf, payloadOf, Binary, Form, binary, negation, embedding, tags, kinds}
 use Rattle.device.specs.StepRule.{Contents, Slots, onlyBase, heldBy, operand, baseOperand, extOperand, op₀, op₁, valueOf}
 use Rattle.scan.specs.Scan.{uniformKind}
 use Rattle.lowered.specs.Faithful.{leavesOf}

@@ -20,10 +20,10 @@ use Rattle.values.specs.Values.{Value, base, Leaves, values}
 use Rattle.values.specs.Frame.{Lent, lent, leaves, proverStrides, nodeOutside, frameLimits}
 use Rattle.evaluation.specs.Evals.{baseEvals, extEvals}
 use Rattle.evaluation.specs.Evaluation.{shortEvals, extRoot, ProverAnswer}
-use Rattle.device.specs.declared.blob.BlobCounts.{BlobCounts}
-use Rattle.device.specs.Blob.{Blob, tags, kinds}
+use Rattle.blob_rules.specs.declared.blob.BlobCounts.{BlobCounts}
+use Rattle.blob_rules.specs.Blob.{Blob, tags, kinds}
 use Rattle.device.specs.StepRule.{Contents, slotsAfter, rootHeld}
-use Rattle.device.specs.Check.{slotCount, legalRows, CheckAnswer}
+use Rattle.blob_rules.specs.Check.{slotCount, legalRows, CheckAnswer}
 use Rattle.slots.specs.Slots.{slotWords}
 use Rattle.walk.specs.Walk.{WalkAnswer}
 use Rattle.liveness.specs.Liveness.{Liveness, Sound}

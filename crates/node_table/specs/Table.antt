@@ -12,7 +12,7 @@ use lib.Dec.{eqb, ltb, leb}
 use Rattle.ir.specs.Words.{Node, nodeAt}
 use Rattle.node_table.specs.Words.{put, same}
 
--- the place after `at` of k places in a ring, and the one that is d places on
+-- the place after `at` of k places in a ring
 abbrev pub next : ℕ → ℕ → ℕ
 next k at = cond (ltb (at + 1) k) (at + 1) 0
 

@@ -17,7 +17,7 @@ use Rattle.ir.specs.Words.{Node}
 abbrev pub markedBy : ℕ → Node → List ℕ → List ℕ
 markedBy width w map = cond (readsNext w) (set map (columnAt width w) 1) map
 
--- the map after n nodes: 1 for each column that one of them reads, and the others as they were
+-- the map after n nodes: 1 for each column that one of them reads at a later row, and the others as they were
 pub record Marked (nodes : List ℕ) (n width : ℕ) (old new : List ℕ) : Type 0 where
   pub long : length new ≡ length old
   pub place : (c : ℕ) → getD new c 0 ≡ cond (anyBelow (readsColumn nodes width c) n) 1 (getD old c 0)

@@ -16,7 +16,7 @@ use Rattle.laws.specs.Maps.{upd}
 use Rattle.laws.proofs.Cases.{by-test}
 use Rattle.laws.proofs.Tests.{and-left}
 use Rattle.ir.specs.Words.{Node, nodeAt}
-use Rattle.device.specs.Blob.{Instr}
+use Rattle.blob_rules.specs.Blob.{Instr}
 use Rattle.liveness.specs.Liveness.{has, operands, isUniform, Liveness}
 use Rattle.scan.specs.Scan.{Scan, pick, left, more, slotWord, encode, written, give, giveAll, claim, scan, flat}
 use Rattle.scan.specs.Arrays.{stack, slotsIn, Stands, Takes, ClassOk, TakeOk, EncOk, GiveOk, WordsOk, Spelt, ReleaseOk, Released, ClaimOk, Claimed, Scannable, Wrote, Ready, Advanced, Begins, Scanned}

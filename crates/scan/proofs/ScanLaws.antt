@@ -14,7 +14,7 @@ use Rattle.laws.specs.Maps.{upd}
 use Rattle.laws.proofs.Tests.{clash, and-left, and-right}
 use Rattle.ir.specs.declared.program.Counts.{Counts}
 use Rattle.ir.specs.Words.{Node, nodeAt}
-use Rattle.device.specs.Blob.{Instr}
+use Rattle.blob_rules.specs.Blob.{Instr}
 use Rattle.liveness.specs.Liveness.{has, operands, Liveness, Sound}
 use Rattle.scan.specs.Scan.{Scan, pick, left, more, written, give, giveAll, claim, scan}
 use Rattle.scan.proofs.SlotLaws.{upd-same, upd-case, Good, give-good, claim-good, pick-low}

@@ -13,7 +13,7 @@ use borrow.Author.Tests.{eqb-true, eqb-false, eq-eqb, ne-eqb, lt-ltb, le-ltb, le
 use Rattle.laws.specs.Maps.{upd}
 use Rattle.laws.proofs.Cases.{by-test}
 use Rattle.ir.specs.Words.{Node, nodeAt}
-use Rattle.device.specs.Blob.{Instr}
+use Rattle.blob_rules.specs.Blob.{Instr}
 use Rattle.liveness.specs.Liveness.{has, operands, isUniform, Liveness}
 use Rattle.scan.specs.Scan.{Scan, pick, left, more, uniformKind, slotWord, encode, written, give, giveAll, claim, scan, flat}
 use Rattle.scan.specs.Arrays.{stack, slotsIn, Stands, ClassOk, EncOk, GiveOk, Gives, Spelt, Released}

@@ -8,7 +8,7 @@ use native.Mathlib.Omega.{arith}
 use lib.Dec.{leb}
 use lib.ListN.{length, getD}
 use borrow.Author.Tests.{le-leb, lt-leb}
-use Rattle.device.specs.Blob.{Instr, instrAt, isExt, slotOf, kindOf, payloadOf}
+use Rattle.blob_rules.specs.Blob.{Instr, instrAt, isExt, slotOf, kindOf, payloadOf}
 use Rattle.scan.specs.Scan.{slotWord, flat}
 
 -- ---- slots and operands

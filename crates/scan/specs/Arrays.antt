@@ -16,7 +16,7 @@ unfoldable pub stack : List ℕ → ℕ → ℕ → List ℕ
 stack l c zero = []
 stack l c (suc k) = getD l (2 * k + c) 0 ∷ stack l c k
 
--- the slots that are held or free
+-- how many slots are held or free
 abbrev pub slotsIn : (slot tops : List ℕ) → ℕ
 slotsIn slot tops = busy slot + (getD tops 0 0 + getD tops 1 0)
 
@@ -73,7 +73,7 @@ pub record Gives (i j : ℕ) (nodes last pinned slot free tops next slot′ free
   pub few : slotsIn slot′ tops′ ≡ slotsIn slot tops
   pub follows : (emitted : List ℕ) (s : Scan) → Stands (length slot) slot free tops next s → Stands (length slot) slot′ free′ tops′ next (give nodes (listed emitted last pinned) i j s)
 
--- operand j can be encoded: it has a slot or is a uniform leaf
+-- operand j can be encoded: it has a slot, or is a leaf whose x fits a payload
 pub record EncOk (j : ℕ) (nodes emitted slot : List ℕ) : Type 0 where
   pub place : j < length slot
   pub emitted-long : length emitted ≡ length slot

@@ -1,3 +1,3 @@
--- Liveness and the scan of lowering.
+-- The scan of lowering, and how lent lists stand for it.
 pub mod Arrays
 pub mod Scan

@@ -6,7 +6,7 @@ use Prim.Native.Nat.{ℕ, zero, suc, _+_, _*_, _-_}
 use lib.Dec.{eqb, leb, ltb}
 use Rattle.laws.specs.Maps.{upd}
 use Rattle.ir.specs.Words.{Node, nodeAt, constBase, constExt, var, rapChallenge, alphaPow, add, neg}
-use Rattle.device.specs.Blob.{Instr}
+use Rattle.blob_rules.specs.Blob.{Instr}
 use Rattle.liveness.specs.Liveness.{operands, Liveness}
 
 -- the state of the scan: each node's slot plus one, 0 for none; the free slots of each class, last freed first; how many

@@ -1,2 +1,2 @@
-// Which nodes of a program get a slot, and the scan that gives it, after device.rs.
+// The scan that gives nodes their slots, over any liveness, after device.rs.
 pub mod scan;

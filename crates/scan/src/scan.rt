@@ -8,8 +8,8 @@ ghost use Rattle.scan.specs.Arrays.{ClassOk, TakeOk, Takes, PushOk, Give
 ghost use Rattle.liveness.specs.LiveLists.{listed};
 ghost use Rattle.scan.specs.Scan.{pick, uniformKind, encode};
 ghost use mathlib.Core.List.{[], _∷_};
-use device::blob::OPK_STEP;
-use device::blob::RES_EXT_BIT;
+use blob_rules::blob::OPK_STEP;
+use blob_rules::blob::RES_EXT_BIT;
 use ir::node::OP_ADD;
 use ir::node::OP_CONST_EXT;
 use ir::node::OP_NEG;

@@ -22,8 +22,8 @@ use Rattle.ir.specs.declared.frame.Shape.{Shape}
 use Rattle.values.specs.Values.{Value, base, ext}
 use Rattle.values.specs.Room.{ValueIs}
 use Rattle.values.proofs.ValueLaws.{base-is, ext-is}
-use Rattle.device.specs.declared.blob.BlobCounts.{BlobCounts}
-use Rattle.device.specs.Blob.{isExt, Binary, plus, minus, times, Form, binary, negation, embedding, tags, kinds}
+use Rattle.blob_rules.specs.declared.blob.BlobCounts.{BlobCounts}
+use Rattle.blob_rules.specs.Blob.{isExt, Binary, plus, minus, times, Form, binary, negation, embedding, tags, kinds}
 use Rattle.device.specs.StepRule.{Contents, Slots, baseOperand, extOperand, op₀, op₁, valueOf}
 use Rattle.slots.specs.Steps.{Holds, Uniforms, ReadsBase, ReadsExt, instr, BaseGives, ExtGives}
 

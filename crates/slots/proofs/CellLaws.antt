@@ -20,7 +20,7 @@ use Rattle.values.specs.Values.{Value, base, ext}
 use Rattle.values.specs.Frame.{word, triple}
 use Rattle.values.specs.Room.{ValueIs}
 use Rattle.device.specs.StepRule.{Contents, cellOf}
-use Rattle.device.specs.Check.{cellOk}
+use Rattle.blob_rules.specs.Check.{cellOk}
 use Rattle.slots.specs.Trace.{rowAt}
 use Rattle.slots.specs.Steps.{Cells, TraceLong, CellGives}
 

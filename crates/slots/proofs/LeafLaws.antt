@@ -17,10 +17,10 @@ use Rattle.ir.specs.Words.{mainOf}
 use Rattle.values.specs.Values.{Value, base, ext}
 use Rattle.values.specs.Frame.{word, triple}
 use Rattle.values.specs.Room.{ValueIs}
-use Rattle.device.specs.declared.blob.BlobCounts.{BlobCounts}
-use Rattle.device.specs.Blob.{tags, kinds, base-consts, ext-consts, challenges, alphas, sizeOf}
+use Rattle.blob_rules.specs.declared.blob.BlobCounts.{BlobCounts}
+use Rattle.blob_rules.specs.Blob.{tags, kinds, base-consts, ext-consts, challenges, alphas, sizeOf}
 use Rattle.device.specs.StepRule.{Contents, Slots, cellOf, valueOf}
-use Rattle.device.specs.Check.{Filled, cellOk, formOk, nodeOk, slotOfClass}
+use Rattle.blob_rules.specs.Check.{Filled, cellOk, formOk, nodeOk, slotOfClass}
 use Rattle.slots.specs.Steps.{Cells, Uniforms, CellGives, NodeLegal, instr, LeafGives}
 use Rattle.slots.proofs.CellLaws.{one-value}
 

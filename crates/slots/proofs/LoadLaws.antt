@@ -21,10 +21,10 @@ use Rattle.extension.proofs.ExtLaws.{near-trans, limbs-near, embedded-near, rem
 use Rattle.ir.specs.declared.frame.Shape.{Shape}
 use Rattle.values.specs.Values.{Value, base, ext, toExt}
 use Rattle.values.specs.Frame.{word, triple}
-use Rattle.device.specs.declared.blob.BlobCounts.{BlobCounts}
-use Rattle.device.specs.Blob.{baseSlots, extSlots, kindOf, payloadOf, kinds, tags}
+use Rattle.blob_rules.specs.declared.blob.BlobCounts.{BlobCounts}
+use Rattle.blob_rules.specs.Blob.{baseSlots, extSlots, kindOf, payloadOf, kinds, tags}
 use Rattle.device.specs.StepRule.{Contents, Slots, onlyBase, heldBy, operand, baseOperand, extOperand}
-use Rattle.device.specs.Check.{Filled, kindOk, operandOk}
+use Rattle.blob_rules.specs.Check.{Filled, kindOk, operandOk}
 use Rattle.slots.specs.Slots.{extWord, slotWords, limbsAt}
 use Rattle.slots.specs.Steps.{Holds, BaseLegal, ExtLegal, ReadsBase, ReadsExt, Uniforms, UniformsLong}
 

@@ -22,8 +22,8 @@ use Rattle.extension.specs.Tower.{goldilocks, remainders}
 use Rattle.extension.proofs.ExtLaws.{near-trans, limbs-stand, limbs-exact, least-limbs, embedded-near, remainders-near}
 use Rattle.values.specs.Values.{Value, base, ext, toExt}
 use Rattle.evaluation.specs.Evals.{baseWord, extWords, baseEvals, extEvals}
-use Rattle.device.specs.declared.blob.BlobCounts.{BlobCounts}
-use Rattle.device.specs.Blob.{baseSlots, extSlots, isExt, slotOf}
+use Rattle.blob_rules.specs.declared.blob.BlobCounts.{BlobCounts}
+use Rattle.blob_rules.specs.Blob.{baseSlots, extSlots, isExt, slotOf}
 use Rattle.device.specs.StepRule.{Slots, rootHeld}
 use Rattle.slots.specs.Slots.{extWord, slotWords, limbsAt}
 use Rattle.slots.specs.Steps.{Holds, RootLegal, RootReads, RootWritten, RootsWritten}

@@ -7,11 +7,11 @@ use Prim.Native.Nat.{ℕ, _+_, _*_, _<_}
 use lib.ListN.{length, getD, take, drop}
 use Rattle.field.specs.Base.{p, _≈_}
 use Rattle.extension.specs.Ext.{limb, Near}
-use Rattle.device.specs.declared.blob.BlobCounts.{BlobCounts}
-use Rattle.device.specs.Blob.{baseSlots, extSlots}
+use Rattle.blob_rules.specs.declared.blob.BlobCounts.{BlobCounts}
+use Rattle.blob_rules.specs.Blob.{baseSlots, extSlots}
 use Rattle.device.specs.StepRule.{Slots}
 
--- the three words of an extension slot
+-- where the three words of an extension slot begin
 abbrev pub extWord : BlobCounts → ℕ → ℕ
 extWord c k = baseSlots c + 3 * k
 
@@ -23,7 +23,7 @@ slotWords c = baseSlots c + 3 * extSlots c
 abbrev pub limbsAt : List ℕ → ℕ → List ℕ
 limbsAt l k = take 3 (drop k l)
 
--- what a base slot and an extension slot hold; a slot that nobody filled is 0
+-- what a base slot holds; 0 where nobody filled it
 abbrev pub heldWord : Option ℕ → ℕ
 heldWord none = 0
 heldWord (some x) = x

@@ -17,10 +17,10 @@ use Rattle.values.specs.Frame.{Lent, word, triple}
 use Rattle.values.specs.Room.{ValueIs}
 use Rattle.values.specs.Values.{Value}
 use Rattle.evaluation.specs.Evals.{baseWord, extWords, baseEvals, extEvals}
-use Rattle.device.specs.declared.blob.BlobCounts.{BlobCounts}
-use Rattle.device.specs.Blob.{Instr, instrAt, isExt, slotOf, baseSlots, extSlots, numBase, tags, kinds}
+use Rattle.blob_rules.specs.declared.blob.BlobCounts.{BlobCounts}
+use Rattle.blob_rules.specs.Blob.{Instr, instrAt, isExt, slotOf, baseSlots, extSlots, numBase, tags, kinds}
 use Rattle.device.specs.StepRule.{Contents, Slots, cellOf, baseOperand, extOperand, valueOf, slotsAfter, rootHeld}
-use Rattle.device.specs.Check.{Filled, operandOk, nodeOk, rootOk, filledAfter, cleared}
+use Rattle.blob_rules.specs.Check.{Filled, operandOk, nodeOk, rootOk, filledAfter, cleared}
 use Rattle.slots.specs.Slots.{extWord, slotWords, limbsAt}
 use Rattle.slots.specs.Trace.{rowAt, contents}
 

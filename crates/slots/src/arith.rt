@@ -8,7 +8,7 @@ ghost use Rattle.slots.specs.Slots.{slotWords};
 ghost use Rattle.slots.specs.Steps.{BaseLegal, ExtLegal, UniformsLong, BaseGives, ExtGives};
 use super::load::load_base;
 use super::load::load_ext;
-use device::blob::BlobCounts;
+use blob_rules::blob::BlobCounts;
 use extension::extensions_goldilocks::Ext;
 use field::goldilocks::Fp;
 use ir::frame::Shape;

@@ -3,7 +3,7 @@ ghost use mathlib.Core.Bool.{true};
 ghost use mathlib.Core.Path.{_≡_};
 ghost use Prim.Native.Nat.{_+_, _*_, _%_, _<_, _≤_};
 ghost use lib.ListN.{length};
-ghost use Rattle.device.specs.Check.{cellOk};
+ghost use Rattle.blob_rules.specs.Check.{cellOk};
 ghost use Rattle.slots.specs.Trace.{rowAt};
 ghost use Rattle.slots.specs.Steps.{mostCells, TraceLong, CellGives};
 use ir::frame::Shape;

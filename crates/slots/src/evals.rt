@@ -1,12 +1,12 @@
-// The roots' values, written where a caller reads them: the one place that reduces.
+// The roots' values, written below p where a caller reads them.
 ghost use mathlib.Core.Path.{_≡_};
 ghost use Prim.Native.Nat.{_≤_};
 ghost use lib.ListN.{length};
 ghost use Rattle.slots.specs.Slots.{slotWords};
 ghost use Rattle.slots.specs.Steps.{RootLegal, RootReads, RootPlace, RootWritten, RootsReady, RootsWritten};
-use device::blob::BlobCounts;
-use device::blob::is_ext;
-use device::blob::slot_of;
+use blob_rules::blob::BlobCounts;
+use blob_rules::blob::is_ext;
+use blob_rules::blob::slot_of;
 use extension::extensions_goldilocks::Ext;
 
 // A root's value as an extension value.

@@ -4,7 +4,7 @@ ghost use lib.ListN.{length};
 ghost use Rattle.slots.specs.Steps.{TraceLong, UniformsLong, NodeLegal, instr, LeafGives};
 use super::cell::Row;
 use super::cell::cell;
-use device::blob::BlobCounts;
+use blob_rules::blob::BlobCounts;
 use extension::extensions_goldilocks::Ext;
 use ir::frame::Shape;
 use ir::node::OP_ALPHA_POW;

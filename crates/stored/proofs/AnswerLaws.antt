@@ -14,7 +14,7 @@ use Rattle.laws.proofs.Tests.{or-left, or-right}
 use Rattle.ir.specs.declared.refusal.Refusal.{Refusal}
 use Rattle.ir.specs.declared.refusal.Refusal.the-variants.{ShortMemory, ShortOutput, BadFraming}
 use Rattle.ir.specs.Refusals.{Said, saidOf}
-use Rattle.device.specs.declared.blob.BlobCounts.{BlobCounts}
+use Rattle.blob_rules.specs.declared.blob.BlobCounts.{BlobCounts}
 use Rattle.stored.specs.declared.write.Stored.the-variants as Stored
 use Rattle.stored.specs.declared.read.ReadStored.the-variants as ReadStored
 use Rattle.stored.specs.Form.{Tables, spread, named, body, distance, size, stored, trailerWords, misframed, trailerWord, countsIn, badFraming, tablesIn}

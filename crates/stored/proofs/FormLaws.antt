@@ -11,7 +11,7 @@ use lib.Seq.{sets, length-sets, drop-drop, length-take-le}
 use Rattle.laws.proofs.Parts.{sets-append}
 use Rattle.bytes.specs.Bytes.{leValue, leBytes}
 use Rattle.field.specs.Base.{p}
-use Rattle.device.specs.declared.blob.BlobCounts.{BlobCounts}
+use Rattle.blob_rules.specs.declared.blob.BlobCounts.{BlobCounts}
 use Rattle.stored.specs.Form.{Tables, spread, words, belowP, distance, named, body, trailerWords, tablesIn}
 use Rattle.stored.specs.Answer.{Long, put}
 

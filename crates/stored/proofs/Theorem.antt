@@ -10,7 +10,7 @@ use lib.Seq.{sets, take-add, take-all, length-take-le}
 use Rattle.bytes.specs.Bytes.{leValue}
 use Rattle.bytes.proofs.BytesLaws.{value-bytes}
 use Rattle.field.specs.Base.{p}
-use Rattle.device.specs.declared.blob.BlobCounts.{BlobCounts}
+use Rattle.blob_rules.specs.declared.blob.BlobCounts.{BlobCounts}
 use Rattle.stored.specs.declared.write.Stored.{Stored}
 use Rattle.stored.specs.declared.write.Stored.the-variants as Stored
 use Rattle.stored.specs.declared.read.ReadStored.{ReadStored}

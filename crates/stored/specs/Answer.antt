@@ -8,7 +8,7 @@ use lib.Dec.{eqb, ltb}
 use lib.ListN.{length}
 use lib.Seq.{sets}
 use Rattle.ir.specs.Refusals.{Said, Row, row, first, gives, saidOf}
-use Rattle.device.specs.declared.blob.BlobCounts.{BlobCounts}
+use Rattle.blob_rules.specs.declared.blob.BlobCounts.{BlobCounts}
 use Rattle.stored.specs.declared.write.Stored.{Stored}
 use Rattle.stored.specs.declared.write.Stored.the-variants as Stored
 use Rattle.stored.specs.declared.read.ReadStored.{ReadStored}
@@ -20,7 +20,7 @@ abbrev pub short : BlobCounts → ℕ → ℕ → ℕ → ℕ → Bool
 short c nodes bases exts roots =
     ltb nodes (4 * c .nodes) || ltb bases (c .bases) || ltb exts (3 * c .exts) || ltb roots (c .roots)
 
--- 1: a table that is shorter than its count
+-- a table that is shorter than its count: 1 in writing, 10 in reading
 abbrev pub shortTables : BlobCounts → Tables → Bool
 shortTables c t = short c (length (t .nodes)) (length (t .bases)) (length (t .exts)) (length (t .roots))
 

@@ -7,7 +7,7 @@ use lib.Dec.{eqb, ltb}
 use lib.ListN.{length, take, drop}
 use Rattle.field.specs.Base.{p}
 use Rattle.bytes.specs.Bytes.{leValue, leBytes}
-use Rattle.device.specs.declared.blob.BlobCounts.{BlobCounts}
+use Rattle.blob_rules.specs.declared.blob.BlobCounts.{BlobCounts}
 
 -- a blob's tables: four words a node, one a base constant, three an extension constant, one a root
 pub record Tables : Type 0 where

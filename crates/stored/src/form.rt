@@ -2,7 +2,7 @@
 ghost use mathlib.Core.Path.{_≡_};
 ghost use Rattle.stored.specs.Form.{distance};
 ghost use Rattle.stored.specs.Answer.{short};
-use device::blob::BlobCounts;
+use blob_rules::blob::BlobCounts;
 
 // The trailer: eight words of 4 bytes.
 pub const TRAILER_BYTES: usize = 32;

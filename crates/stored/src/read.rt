@@ -8,9 +8,9 @@ ghost use Rattle.stored.specs.Answer.{Long, put, ReadAnswer};
 use super::form::TRAILER_BYTES;
 use super::form::body_words;
 use super::form::short_tables;
+use blob_rules::blob::BlobCounts;
 use bytes::bytes::u32_at;
 use bytes::bytes::u64_at;
-use device::blob::BlobCounts;
 use field::goldilocks::Fp;
 use ir::refusal::Refusal;
 
@@ -38,7 +38,9 @@ fn read_constants(file: &[u8], at: usize, count: usize, to: &mut [u64])
 {
     let mut i: usize = 0;
     while i < count {
-        to[i] = Fp::reduce(u64_at(file, at + 8 * i));
+        let word = u64_at(file, at + 8 * i);
+        let least = Fp::reduce(word);
+        to[i] = least;
         i += 1;
     }
 }

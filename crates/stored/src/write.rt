@@ -8,9 +8,9 @@ ghost use Rattle.stored.specs.Answer.{noRoom, Long, WriteAnswer};
 use super::form::TRAILER_BYTES;
 use super::form::body_words;
 use super::form::short_tables;
+use blob_rules::blob::BlobCounts;
 use bytes::bytes::put_u32;
 use bytes::bytes::put_u64;
-use device::blob::BlobCounts;
 use field::goldilocks::Fp;
 use ir::refusal::Refusal;
 

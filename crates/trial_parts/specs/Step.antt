@@ -68,7 +68,7 @@ pub record Put (v : Value ℕ (List ℕ)) (class i : ℕ) (old new : List ℕ) :
   pub value-is : ValueIs v class limbs
   pub stored : new ≡ sets old (4 * i) (class ∷ tabulate 3 (limb limbs))
 
--- an operation is well-formed where dims are the classes in the room
+-- what a well-formed operation asks besides its first operand's id, where dims are the classes in the room
 unfoldable pub operandsOk : List ℕ → ℕ → ℕ → ℕ → ℕ → ℕ → Bool
 operandsOk room i tag x y dim =
     cond (ltb tag neg) (ltb y i && eqb dim (joined (getD room (4 * x) 0) (getD room (4 * y) 0)))

@@ -60,7 +60,7 @@ pub record Tried (s : Strides) (m : Limits) (c : Counts) (l : Lent) (nodes old n
   pub node-fits : (j : ℕ) → j < c .nodes → NodeFits c m nodes j (nodeAt nodes j)
   pub holds : RoomHolds (values goldilocks (leaves s l) nodes (c .nodes)) (c .nodes) old new
 
--- or some node did not, and the room is as it was
+-- that where it answers true; where it answers false the room is as it was
 pub record Trial (s : Strides) (m : Limits) (c : Counts) (l : Lent) (nodes old new : List ℕ) (passed : Bool) : Type 0 where
   pub done : passed ≡ true → Tried s m c l nodes old new
   pub kept : passed ≡ false → new ≡ old

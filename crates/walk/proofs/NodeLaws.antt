@@ -14,10 +14,10 @@ use Rattle.laws.proofs.Cases.{by-test}
 use Rattle.laws.proofs.Tests.{clash, and-left, and-right}
 use Rattle.ir.specs.declared.frame.Shape.{Shape}
 use Rattle.values.specs.Room.{ValueIs}
-use Rattle.device.specs.declared.blob.BlobCounts.{BlobCounts}
-use Rattle.device.specs.Blob.{isExt, slotOf, baseSlots, extSlots, tags, kinds}
-use Rattle.device.specs.Check.{Filled, slotIn, slotOfClass, operandOk, formOk, nodeOk}
-use Rattle.device.proofs.CheckLaws.{node-unknown, node-by}
+use Rattle.blob_rules.specs.declared.blob.BlobCounts.{BlobCounts}
+use Rattle.blob_rules.specs.Blob.{isExt, slotOf, baseSlots, extSlots, tags, kinds}
+use Rattle.blob_rules.specs.Check.{Filled, slotIn, slotOfClass, operandOk, formOk, nodeOk}
+use Rattle.blob_rules.proofs.CheckLaws.{node-unknown, node-by}
 use Rattle.device.proofs.Theorem.{by-operation}
 use Rattle.slots.specs.Steps.{NodeLegal, instr, BaseLegal, ExtLegal, BaseGives, ExtGives, OperationGives, Uniforms}
 

@@ -29,8 +29,8 @@ use Rattle.extension.proofs.ExtLaws.{limbs-near, kept-limbs, near-trans, near-s
 use Rattle.values.specs.Values.{Value, base, ext, toExt}
 use Rattle.values.specs.Room.{ValueIs}
 use Rattle.values.proofs.OperationLaws.{base-word}
-use Rattle.device.specs.declared.blob.BlobCounts.{BlobCounts}
-use Rattle.device.specs.Blob.{baseSlots, extSlots, isExt, slotOf}
+use Rattle.blob_rules.specs.declared.blob.BlobCounts.{BlobCounts}
+use Rattle.blob_rules.specs.Blob.{baseSlots, extSlots, isExt, slotOf}
 use Rattle.device.specs.StepRule.{Slots, put}
 use Rattle.device.proofs.Exact.{not-held}
 use Rattle.slots.specs.Slots.{extWord, slotWords, limbsAt}

@@ -13,8 +13,8 @@ use Rattle.laws.proofs.Options.{after-some}
 use Rattle.extension.specs.Tower.{goldilocks}
 use Rattle.ir.specs.declared.frame.Shape.{Shape}
 use Rattle.values.specs.Frame.{Lent}
-use Rattle.device.specs.declared.blob.BlobCounts.{BlobCounts}
-use Rattle.device.specs.Blob.{Instr, instrAt, tags, kinds}
+use Rattle.blob_rules.specs.declared.blob.BlobCounts.{BlobCounts}
+use Rattle.blob_rules.specs.Blob.{Instr, instrAt, tags, kinds}
 use Rattle.device.specs.StepRule.{Slots, valueOf, put, step, slotsAfter}
 use Rattle.slots.specs.Slots.{slotWords}
 use Rattle.slots.specs.Trace.{contents}

@@ -18,10 +18,10 @@ use Rattle.ir.specs.Refusals.{inOrder, anyHolds}
 use Rattle.ir.proofs.Single.{outcome-single}
 use Rattle.values.specs.Frame.{Lent}
 use Rattle.interp.proofs.Single.{one-word}
-use Rattle.device.specs.declared.blob.BlobCounts.{BlobCounts}
-use Rattle.device.specs.Blob.{Blob, baseSlots, extSlots}
+use Rattle.blob_rules.specs.declared.blob.BlobCounts.{BlobCounts}
+use Rattle.blob_rules.specs.Blob.{Blob, baseSlots, extSlots}
 use Rattle.device.specs.StepRule.{Slots}
-use Rattle.device.specs.Check.{blobOrder}
+use Rattle.blob_rules.specs.Check.{blobOrder}
 use Rattle.slots.specs.Slots.{extWord, slotWords, limbsAt, SlotsEnd}
 use Rattle.walk.specs.Walk.{walkRows, WalkAnswer}
 

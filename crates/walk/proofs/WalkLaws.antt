@@ -35,14 +35,14 @@ use Rattle.values.specs.Values.{Value}
 use Rattle.values.specs.Frame.{Lent}
 use Rattle.interp.proofs.AnswerLaws.{any-append}
 use Rattle.evaluation.proofs.RefuseLaws.{cells-small}
-use Rattle.device.specs.declared.blob.BlobCounts.{BlobCounts}
-use Rattle.device.specs.Blob.{Blob, numBase, baseSlots, extSlots, tags, kinds, instrAt, isExt, slotOf}
+use Rattle.blob_rules.specs.declared.blob.BlobCounts.{BlobCounts}
+use Rattle.blob_rules.specs.Blob.{Blob, numBase, baseSlots, extSlots, tags, kinds, instrAt, isExt, slotOf}
 use Rattle.device.specs.StepRule.{Contents, Slots, slotsAfter, rootHeld}
-use Rattle.device.specs.Check.{nodeOk, rootOk, filledAfter, illegal, extRoot, legalRows, shortCheck, slotCount, cleared}
-use Rattle.device.specs.Marks.{LegalChecked}
+use Rattle.blob_rules.specs.Check.{nodeOk, rootOk, filledAfter, illegal, extRoot, legalRows, shortCheck, slotCount, cleared}
+use Rattle.blob_rules.specs.Marks.{LegalChecked}
 use Rattle.device.proofs.Exact.{Through, through, root-stops}
 use Rattle.device.proofs.CallLaws.{LongEnough, long-enough}
-use Rattle.device.proofs.MarkLaws.{badNode, cleared-rest, cleared-long}
+use Rattle.blob_rules.proofs.MarkLaws.{badNode, cleared-rest, cleared-long}
 use Rattle.walk.specs.declared.walk.FrameLengths.{FrameLengths}
 use Rattle.slots.specs.Slots.{extWord, slotWords, limbsAt, heldWord, heldLimbs, SlotsEnd}
 use Rattle.slots.specs.Trace.{contents}

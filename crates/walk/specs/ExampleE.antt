@@ -12,9 +12,9 @@ use Rattle.extension.specs.Tower.{goldilocks, remainders}
 use Rattle.ir.specs.Shape.{overShape}
 use Rattle.ir.specs.Refusals.{Said, first, gives}
 use Rattle.interp.specs.ExampleE.{shape, frame}
-use Rattle.device.specs.Blob.{Blob, tags, kinds}
+use Rattle.blob_rules.specs.Blob.{Blob, tags, kinds}
 use Rattle.device.specs.StepRule.{Slots, baseOperand, extOperand, step, slotsAfter}
-use Rattle.device.specs.Check.{operandOk, cellOk, nodeOk, filledAfter, illegal, extRoot, shortCheck, checkRows}
+use Rattle.blob_rules.specs.Check.{operandOk, cellOk, nodeOk, filledAfter, illegal, extRoot, shortCheck, checkRows}
 use Rattle.slots.specs.Slots.{heldWord, heldLimbs}
 use Rattle.slots.specs.Trace.{contents}
 use Rattle.walk.specs.Walk.{slotsOr}

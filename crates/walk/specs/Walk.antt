@@ -16,10 +16,10 @@ use Rattle.values.specs.Values.{Value}
 use Rattle.values.specs.Values as Values
 use Rattle.values.specs.Frame.{Lent}
 use Rattle.evaluation.specs.Evals.{baseEvals, extEvals}
-use Rattle.device.specs.declared.blob.BlobCounts.{BlobCounts}
-use Rattle.device.specs.Blob.{Blob, baseSlots, extSlots, numBase, tags, kinds}
+use Rattle.blob_rules.specs.declared.blob.BlobCounts.{BlobCounts}
+use Rattle.blob_rules.specs.Blob.{Blob, baseSlots, extSlots, numBase, tags, kinds}
 use Rattle.device.specs.StepRule.{Contents, Slots, slotsAfter, rootHeld}
-use Rattle.device.specs.Check.{shortCheck, legalRows, slotCount, cleared}
+use Rattle.blob_rules.specs.Check.{shortCheck, legalRows, slotCount, cleared}
 use Rattle.walk.specs.declared.walk.FrameLengths.{FrameLengths}
 use Rattle.slots.specs.Slots.{slotWords, SlotsEnd}
 use Rattle.slots.specs.Trace.{contents}
@@ -52,7 +52,8 @@ shortFrame c s f =
 unfoldable pub shortWalk : BlobCounts → Shape → FrameLengths → (nodes roots marks slots : ℕ) → Bool
 shortWalk c s f nodes roots marks slots = shortCheck c nodes roots marks || shortFrame c s f || ltb slots (slotWords c)
 
--- 14: base_evals has the smaller of num_base and the root count; ext_evals three words a root, if any is at or past num_base
+-- 14: base_evals has fewer words than the smaller of num_base and the root count; or a root is at or past num_base, and ext_evals
+-- has fewer than three words a root
 unfoldable pub shortEvals : BlobCounts → (base ext : ℕ) → Bool
 shortEvals c base ext = ltb base (min (numBase c) (c .roots)) || (ltb (numBase c) (c .roots) && ltb ext (3 * c .roots))
 
@@ -77,7 +78,7 @@ abbrev pub valueOr : Option (Value ℕ (List ℕ)) → Value ℕ (List ℕ)
 valueOr none = Values.base 0
 valueOr (some v) = v
 
--- the slots at the end, where the rule gets through
+-- the slots, or empty ones where the rule stops: for a blob that passes it does not
 abbrev pub slotsOr : Option (Slots ℕ (List ℕ)) → Slots ℕ (List ℕ)
 slotsOr none = record { bases = λ k. none; exts = λ k. none }
 slotsOr (some m) = m

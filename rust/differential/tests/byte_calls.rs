@@ -98,7 +98,11 @@ fn short_rooms() {
         for k in 0..6 {
             let mut cut = lent.clone();
             cut.words[k].pop();
-            compare_walk(&mut score, cells, &file, rooms.clone(), cut);
+            compare_walk(&mut score, cells, &file, rooms.clone(), cut.clone());
+            // 2 is told before it, since the shape needs no words.
+            let mut over = cells.clone();
+            over.shape.steps = 257;
+            compare_walk(&mut score, &over, &file, rooms.clone(), cut);
             let mut cut = lent.clone();
             let len = cut.tables[k].len().saturating_sub(8);
             cut.tables[k].truncate(len);
@@ -115,7 +119,7 @@ fn short_rooms() {
             compare_check(&mut score, cells, &file[..len], rooms.clone(), lent.marks.clone());
         }
     }
-    score.finish(&[0, 1, 10, 14, 15]);
+    score.finish(&[0, 1, 2, 10, 14, 15]);
 }
 
 fn a_program(random: &mut Random) -> Words {
@@ -193,6 +197,10 @@ fn refused_programs() {
             ..words.clone()
         };
         compare_lower(&mut score, &told, &tables, memory.clone());
+        // 8 and 9 are told before a room that is too short, since counts need no words.
+        let mut cut = memory.clone();
+        cut.words.cut(random.below(4));
+        compare_lower(&mut score, &told, &tables, cut);
         if !words.nodes.is_empty() {
             let mut changed = words.clone();
             let at = random.below(changed.nodes.len());

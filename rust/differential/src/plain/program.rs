@@ -125,7 +125,7 @@ pub(super) fn roots<'a>(program: &Program<'a>) -> impl Iterator<Item = usize> + 
 }
 
 /// 8, then 9.
-pub(super) fn counts_fit(program: &Program) -> Answer {
+pub fn counts_fit(program: &Program) -> Answer {
     let counts = &program.counts;
     let most = counts.nodes.max(counts.base_consts).max(counts.ext_consts);
     refuse_if(8, 536_870_911 < most)?;
@@ -133,7 +133,7 @@ pub(super) fn counts_fit(program: &Program) -> Answer {
 }
 
 /// 2, for a shape.
-pub(super) fn shape_fits(shape: &Shape) -> Answer {
+pub fn shape_fits(shape: &Shape) -> Answer {
     let most = [shape.main_width, shape.aux_width, shape.challenges, shape.alphas];
     refuse_if(2, 256 < shape.steps || most.iter().any(|count| 65_536 < *count))
 }

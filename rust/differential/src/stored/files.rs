@@ -8,6 +8,7 @@ use super::{Four, and_some, bytes64, fresh64, lens_for, number, put, refusal, wo
 use crate::Score;
 use crate::blobs::{BlobWords, Lengths};
 use crate::inputs::Random;
+use crate::plain::program::shape_fits;
 use crate::programs::Cells;
 use crate::programs::compare::Answer;
 
@@ -95,6 +96,7 @@ impl Lent {
 
     /// The same by the call on words.
     fn plain(&mut self, cells: &Cells, blob: &BlobWords) -> Answer {
+        shape_fits(&cells.shape)?;
         let mut words = self.tables.clone().map(|bytes| words64(&bytes));
         for (room, words) in self.words.iter().zip(&words) {
             if room.len() < words.len() {

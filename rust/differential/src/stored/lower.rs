@@ -8,6 +8,7 @@ use super::{Four, and_some, below_p, blob_lens, bytes32, bytes64, form_a, fresh3
 use crate::Score;
 use crate::blobs::published as device;
 use crate::inputs::Random;
+use crate::plain::program::counts_fit;
 use crate::programs::compare::Answer;
 use crate::programs::{Words, published};
 
@@ -95,6 +96,7 @@ impl Memory {
 
     /// The same by the published `lower` and a plain writer.
     fn plain(&mut self, words: &Words) -> Answer {
+        counts_fit(&words.lend())?;
         let lens = [
             words.nodes.len(),
             words.base_consts.len(),

@@ -6,7 +6,7 @@ use Rattle.device.proofs.check.check_blob.Tie as tie
 use Rattle.device.proofs.check.check_blob.Reads as reads
 use Rattle.device.proofs.check.check_blob.Lts as lts
 use Rattle.device.proofs.check.legal_refusal.Reads as legal-refusal-reads
-use Rattle.device.proofs.check.short_check.Reads as short-check-reads
+use Rattle.blob_rules.proofs.legal.short_check.Reads as short-check-reads
 use Rattle.ir.proofs.frame.over_shape.Reads as over-shape-reads
 
 -- src/check.rt:372:8

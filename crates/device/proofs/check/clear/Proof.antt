@@ -3,8 +3,8 @@
 use Prim.Native.Nat.{_+_, _≤_, _-_}
 use mathlib.Core.Path.{_≡_, refl, sym}
 use native.Mathlib.Omega.{arith}
-use Rattle.device.specs.Check.{cleared}
-use Rattle.device.proofs.MarkLaws.{clear-start, clear-more, cleared-long}
+use Rattle.blob_rules.specs.Check.{cleared}
+use Rattle.blob_rules.proofs.MarkLaws.{clear-start, clear-more, cleared-long}
 use borrow.Author.Needs.{needs}
 use Rattle.device.proofs.check.clear.Statement.{statement}
 use Rattle.device.proofs.check.clear.Tie as tie

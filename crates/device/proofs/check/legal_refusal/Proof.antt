@@ -1,6 +1,6 @@
 use borrow.Author.Needs.{needs}
 use Rattle.device.proofs.CallLaws.{legal-checked}
-use Rattle.device.proofs.MarkLaws.{alike-cleared, cleared-long}
+use Rattle.blob_rules.proofs.MarkLaws.{alike-cleared, cleared-long}
 use native.Mathlib.Omega.{arith}
 use Rattle.device.proofs.check.legal_refusal.Statement.{statement}
 use Rattle.device.proofs.check.legal_refusal.Tie as tie

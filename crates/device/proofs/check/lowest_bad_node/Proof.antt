@@ -4,13 +4,13 @@ use Prim.Native.Nat.{_≤_, _-_}
 use mathlib.Core.Path.{_≡_, refl}
 use native.Mathlib.Omega.{arith}
 use borrow.Author.Needs.{needs}
-use Rattle.device.proofs.MarkLaws.{Checking, checking-start, checking-more, checking-stops, checking-ends, node-slot-in}
+use Rattle.blob_rules.proofs.MarkLaws.{Checking, checking-start, checking-more, checking-stops, checking-ends, node-slot-in}
 use Rattle.device.proofs.check.lowest_bad_node.Statement.{statement}
 use Rattle.device.proofs.check.lowest_bad_node.Tie as tie
 use Rattle.device.proofs.check.lowest_bad_node.Reads as reads
 use Rattle.device.proofs.check.lowest_bad_node.Lts as lts
-use Rattle.device.proofs.check.node_ok.Reads as node-ok-reads
-use Rattle.device.proofs.check.set_mark.Reads as set-mark-reads
+use Rattle.blob_rules.proofs.legal.node_ok.Reads as node-ok-reads
+use Rattle.blob_rules.proofs.legal.set_mark.Reads as set-mark-reads
 
 abbrev Inv-loop : tie.InvT-loop
 Inv-loop c s nodes marks₀ n i₀ marks i = (i ≤ n) × (n ≡ c .nodes) × Checking c s nodes marks₀ marks i

@@ -7,17 +7,17 @@ use mathlib.Core.Bool.{Bool, not}
 use mathlib.Core.Option.{none}
 use mathlib.Core.List.{List}
 use lib.ListN.{getD}
-use Rattle.device.specs.declared.blob.BlobCounts.{BlobCounts}
+use Rattle.blob_rules.specs.declared.blob.BlobCounts.{BlobCounts}
 use Rattle.laws.specs.Folds.{lowest}
 use Rattle.laws.proofs.Folds.{lowest-start, lowest-on, lowest-at, lowest-stays}
-use Rattle.device.specs.Check.{rootOk}
-use Rattle.device.specs.Marks.{marked}
+use Rattle.blob_rules.specs.Check.{rootOk}
+use Rattle.blob_rules.specs.Marks.{marked}
 use borrow.Author.Needs.{needs}
 use Rattle.device.proofs.check.lowest_bad_root.Statement.{statement}
 use Rattle.device.proofs.check.lowest_bad_root.Tie as tie
 use Rattle.device.proofs.check.lowest_bad_root.Reads as reads
 use Rattle.device.proofs.check.lowest_bad_root.Lts as lts
-use Rattle.device.proofs.check.root_ok.Reads as root-ok-reads
+use Rattle.blob_rules.proofs.legal.root_ok.Reads as root-ok-reads
 
 abbrev bad : BlobCounts → List ℕ → List ℕ → ℕ → Bool
 bad c roots marks k = not (rootOk c (marked c marks) (getD roots k 0))

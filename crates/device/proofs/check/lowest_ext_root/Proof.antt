@@ -10,15 +10,15 @@ use lib.ListN.{getD}
 use Rattle.laws.specs.Folds.{lowest}
 use Rattle.laws.proofs.Folds.{lowest-start, lowest-on, lowest-at, lowest-stays}
 use lib.Dec.{ltb}
-use Rattle.device.specs.Blob.{isExt}
-use Rattle.device.specs.Check.{extRoot}
+use Rattle.blob_rules.specs.Blob.{isExt}
+use Rattle.blob_rules.specs.Check.{extRoot}
 use borrow.Author.Needs.{needs}
 use Rattle.device.proofs.check.lowest_ext_root.Statement.{statement}
 use Rattle.device.proofs.check.lowest_ext_root.Tie as tie
 use Rattle.device.proofs.check.lowest_ext_root.Reads as reads
 use Rattle.device.proofs.check.lowest_ext_root.Lts as lts
-use Rattle.device.proofs.blob.is_ext.Reads as is-ext-reads
-use Rattle.device.proofs.check.both.Reads as both-reads
+use Rattle.blob_rules.proofs.blob.is_ext.Reads as is-ext-reads
+use Rattle.blob_rules.proofs.legal.both.Reads as both-reads
 
 abbrev bad : ℕ → List ℕ → ℕ → Bool
 bad leading roots k = ltb k leading && isExt (getD roots k 0)

@@ -1,6 +1,6 @@
 use borrow.Author.Needs.{needs}
 use Rattle.slots.proofs.ArithLaws.{ext-binary-gives, ext-either-gives}
-use Rattle.device.specs.Blob.{times, tags}
+use Rattle.blob_rules.specs.Blob.{times, tags}
 use Rattle.laws.specs.Options.{at}
 use mathlib.Core.Path.{ap}
 use Rattle.slots.proofs.arith.ext_binary.Statement.{statement}

@@ -6,8 +6,8 @@ use Rattle.slots.proofs.evals.root_value.Statement.{statement}
 use Rattle.slots.proofs.evals.root_value.Tie as tie
 use Rattle.slots.proofs.evals.root_value.Reads as reads
 use Rattle.slots.proofs.evals.root_value.Lts as lts
-use Rattle.device.proofs.blob.is_ext.Reads as is-ext-reads
-use Rattle.device.proofs.blob.slot_of.Reads as slot-of-reads
+use Rattle.blob_rules.proofs.blob.is_ext.Reads as is-ext-reads
+use Rattle.blob_rules.proofs.blob.slot_of.Reads as slot-of-reads
 use Rattle.extension.proofs.extensions_goldilocks.Ext.embed.Reads as embed-reads
 use Rattle.extension.proofs.extensions_goldilocks.Ext.load.Reads as load-reads
 use Rattle.extension.proofs.extensions_goldilocks.Ext.reduce.Reads as reduce-reads

@@ -1,6 +1,6 @@
 use borrow.Author.Needs.{needs}
 use Rattle.slots.proofs.LeafLaws.{leaf-in, base-const-gives, ext-const-gives, cell-gives, challenge-gives, alpha-gives, offset-gives}
-use Rattle.device.proofs.CheckLaws.{is-five}
+use Rattle.blob_rules.proofs.CheckLaws.{is-five}
 use native.Mathlib.Omega.{arith}
 use Rattle.slots.proofs.leaf.leaf.Statement.{statement}
 use Rattle.slots.proofs.leaf.leaf.Tie as tie

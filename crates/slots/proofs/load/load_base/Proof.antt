@@ -6,8 +6,8 @@ use Rattle.slots.proofs.load.load_base.Statement.{statement}
 use Rattle.slots.proofs.load.load_base.Tie as tie
 use Rattle.slots.proofs.load.load_base.Reads as reads
 use Rattle.slots.proofs.load.load_base.Lts as lts
-use Rattle.device.proofs.blob.kind_of.Reads as kind-of-reads
-use Rattle.device.proofs.blob.payload_of.Reads as payload-of-reads
+use Rattle.blob_rules.proofs.blob.kind_of.Reads as kind-of-reads
+use Rattle.blob_rules.proofs.blob.payload_of.Reads as payload-of-reads
 
 -- src/load.rt:24:13
 payload-of-requires : tie.Need-payload-of-requires

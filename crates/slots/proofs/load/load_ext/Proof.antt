@@ -6,8 +6,8 @@ use Rattle.slots.proofs.load.load_ext.Statement.{statement}
 use Rattle.slots.proofs.load.load_ext.Tie as tie
 use Rattle.slots.proofs.load.load_ext.Reads as reads
 use Rattle.slots.proofs.load.load_ext.Lts as lts
-use Rattle.device.proofs.blob.kind_of.Reads as kind-of-reads
-use Rattle.device.proofs.blob.payload_of.Reads as payload-of-reads
+use Rattle.blob_rules.proofs.blob.kind_of.Reads as kind-of-reads
+use Rattle.blob_rules.proofs.blob.payload_of.Reads as payload-of-reads
 use Rattle.extension.proofs.extensions_goldilocks.Ext.embed.Reads as embed-reads
 use Rattle.extension.proofs.extensions_goldilocks.Ext.load.Reads as load-reads
 

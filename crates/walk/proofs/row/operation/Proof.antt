@@ -5,7 +5,7 @@ use Rattle.walk.proofs.row.operation.Statement.{statement}
 use Rattle.walk.proofs.row.operation.Tie as tie
 use Rattle.walk.proofs.row.operation.Reads as reads
 use Rattle.walk.proofs.row.operation.Lts as lts
-use Rattle.device.proofs.blob.is_ext.Reads as is-ext-reads
+use Rattle.blob_rules.proofs.blob.is_ext.Reads as is-ext-reads
 use Rattle.slots.proofs.arith.base_arith.Reads as base-arith-reads
 use Rattle.slots.proofs.arith.ext_arith.Reads as ext-arith-reads
 

@@ -1,6 +1,6 @@
 use borrow.Author.Needs.{needs}
-use Rattle.device.proofs.MarkLaws.{node-slot}
-use Rattle.device.specs.Blob.{instrAt, tags, kinds}
+use Rattle.blob_rules.proofs.MarkLaws.{node-slot}
+use Rattle.blob_rules.specs.Blob.{instrAt, tags, kinds}
 use Rattle.walk.proofs.row.step.Statement.{statement}
 use Rattle.walk.proofs.row.step.Tie as tie
 use Rattle.walk.proofs.row.step.Reads as reads

@@ -6,8 +6,8 @@ use Rattle.walk.proofs.row.store.Statement.{statement}
 use Rattle.walk.proofs.row.store.Tie as tie
 use Rattle.walk.proofs.row.store.Reads as reads
 use Rattle.walk.proofs.row.store.Lts as lts
-use Rattle.device.proofs.blob.is_ext.Reads as is-ext-reads
-use Rattle.device.proofs.blob.slot_of.Reads as slot-of-reads
+use Rattle.blob_rules.proofs.blob.is_ext.Reads as is-ext-reads
+use Rattle.blob_rules.proofs.blob.slot_of.Reads as slot-of-reads
 use Rattle.extension.proofs.extensions_goldilocks.Ext.store.Reads as store-reads
 
 -- src/row.rt:73:13

@@ -5,7 +5,7 @@ use Rattle.walk.proofs.walk.short_walk.Statement.{statement}
 use Rattle.walk.proofs.walk.short_walk.Tie as tie
 use Rattle.walk.proofs.walk.short_walk.Reads as reads
 use Rattle.walk.proofs.walk.short_walk.Lts as lts
-use Rattle.device.proofs.check.short_check.Reads as short-check-reads
+use Rattle.blob_rules.proofs.legal.short_check.Reads as short-check-reads
 use Rattle.walk.proofs.walk.short_frame.Reads as short-frame-reads
 
 -- src/walk.rt:69:8

@@ -1,6 +1,6 @@
 use borrow.Author.Needs.{needs}
 use Rattle.slots.specs.Slots.{slotWords}
-use Rattle.device.proofs.MarkLaws.{cleared-long}
+use Rattle.blob_rules.proofs.MarkLaws.{cleared-long}
 use Rattle.walk.proofs.walk.walk_frame.Statement.{statement}
 use Rattle.walk.proofs.walk.walk_frame.Tie as tie
 use Rattle.walk.proofs.walk.walk_frame.Reads as reads

@@ -1,0 +1,3 @@
+// What a blob is, and what the check asks of one node and one root.
+pub mod blob;
+pub mod legal;
