@@ -23,6 +23,8 @@ const BUILT: &str = "target/staticlib";
 
 fn main() {
     println!("cargo::rerun-if-env-changed={VARIABLE}");
+    // For the test that holds the declarations to each other.
+    println!("cargo::rustc-env=HOST_LIBRARIES={}", LIBRARIES.join(" "));
     // A set but empty variable counts as unset: that is how a shell clears one for a single command.
     let given = env::var_os(VARIABLE).filter(|value| !value.is_empty());
     let package = env::var_os("CARGO_MANIFEST_DIR").expect("Cargo sets CARGO_MANIFEST_DIR");

@@ -59,16 +59,10 @@ fn slice(kind: &str, word: &str) -> Vec<String> {
 
 /// `pub extern "C" fn NAME(a: u64, b: &[u64], c: &mut [u32], d: &mut u64) -> u64`
 fn rattle() -> Calls {
-    let text: String = [
-        "host_field",
-        "host_builder",
-        "host_builder_bytes",
-        "host_stored",
-        "host",
-        "host_bytes",
-    ]
-    .map(|name| sources(&root().join("crates").join(name).join("src"), "rt"))
-    .concat();
+    let text: String = env!("HOST_LIBRARIES")
+        .split(' ')
+        .map(|name| sources(&root().join("crates").join(name).join("src"), "rt"))
+        .collect();
     let mut calls = Calls::new();
     for call in text.split("pub extern \"C\" fn ").skip(1) {
         let (name, rest) = call.split_once('(').expect("a call has parameters");
