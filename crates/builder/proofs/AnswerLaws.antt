@@ -1,4 +1,4 @@
--- How a call that makes a node ends.
+-- A refusal is told by a number, and how a call that makes a node ends.
 -- Assumes nothing.
 use mathlib.Core.Bool.{Bool, false}
 use mathlib.Core.List.{List, []}
@@ -6,10 +6,13 @@ use mathlib.Core.Option.{Option, none, some}
 use mathlib.Core.Path.{_≡_, refl, sym, ap, _∙_}
 use Prim.Native.Nat.{ℕ, _*_, _/_, _≤_}
 use native.Mathlib.Omega.{arith}
-use lib.Dec.{ltb}
-use borrow.Author.Tests.{ltb-false}
+use lib.Dec.{eqb, ltb}
+use borrow.Author.Tests.{ltb-false, ne-eqb}
 use Rattle.laws.proofs.Tests.{or-left}
 use Rattle.ir.specs.Words.{Node}
+use Rattle.ir.specs.declared.refusal.Refusal.{Refusal}
+use Rattle.ir.specs.Refusals.{saidOf}
+use Rattle.ir.proofs.RefusalLaws.{refusal-number}
 use Rattle.node_table.specs.Hashing.{startOf}
 use Rattle.node_table.specs.Table.{Table, table}
 use Rattle.node_table.specs.Puts.{Pushes}
@@ -18,6 +21,10 @@ use Rattle.builder.specs.declared.ir_builder.Answer.{Answer}
 use Rattle.builder.specs.declared.ir_builder.IrBuilder.{IrBuilder}
 use Rattle.node_table.specs.declared.table.Put.{Put}
 use Rattle.node_table.specs.declared.table.Put.the-variants.{At, Full}
+
+-- the number of a refusal is not 0
+pub refused-not-0 : (why : Refusal) → false ≡ eqb (saidOf why .number) 0
+refused-not-0 why = sym (ne-eqb (saidOf why .number) 0 (refusal-number why))
 
 pub long-nodes : (ln lp n : ℕ) (s : Bool) → s ≡ shortB ln lp n → s ≡ false → 4 * n ≤ ln
 unfolding shortB

@@ -1,12 +1,12 @@
 -- What a builder call says, and how every call that makes a node ends, over any lent words.
 -- Assumes nothing.
-use mathlib.Core.Bool.{Bool, true, false, cond, not, _||_}
+use mathlib.Core.Bool.{Bool, true, false, cond, _||_}
 use mathlib.Core.List.{List, [], _∷_, _++_}
 use mathlib.Core.Option.{Option, none, some}
 use mathlib.Core.Path.{_≡_}
-use Prim.Native.Nat.{ℕ, _+_, _*_, _/_}
-use lib.Dec.{eqb, leb, ltb}
-use lib.ListN.{length, getD}
+use Prim.Native.Nat.{ℕ, _/_}
+use lib.Dec.{ltb}
+use lib.ListN.{length}
 use Rattle.laws.specs.Options.{missing}
 use Rattle.ir.specs.declared.refusal.Refusal.the-variants.{NodesFull}
 use Rattle.ir.specs.Refusals.{Said, Row, row, first, anyHolds, gives, saidOf, foundAt}
@@ -19,6 +19,7 @@ use Rattle.node_table.specs.declared.table.Put.{Put}
 use Rattle.node_table.specs.declared.table.Put.the-variants.{At, Full}
 use Rattle.node_table.specs.Hashing.{Start}
 use Rattle.node_table.specs.Table.{Table, Pushed, push}
+use Rattle.node_table.specs.Tests.{noNode}
 
 -- ---- the code's answers
 
@@ -53,7 +54,7 @@ shortB nodes places n = ltb (nodes / 4) n || ltb places n
 
 -- 3: a handle's id not below the node count, or its dim not that node's
 unfoldable pub strangerB : List ℕ → ℕ → Expr → Bool
-strangerB nodes n e = leb n (e .id) || not (eqb (getD nodes (4 * e .id + 3) 0) (e .dim))
+strangerB nodes n e = noNode nodes n (e .id) (e .dim)
 
 -- ---- a call that makes a node
 

@@ -3,7 +3,6 @@
 use mathlib.Core.Bool.{Bool, true, false, cond, _||_}
 use mathlib.Core.List.{List, [], _∷_}
 use Prim.Native.Nat.{ℕ}
-use lib.Dec.{ltb}
 use lib.ListN.{length}
 use Rattle.ir.specs.Program.{joined}
 use Rattle.ir.specs.Refusals.{Row, row}
@@ -12,6 +11,7 @@ use Rattle.builder.specs.declared.ir_builder.Expr.{Expr}
 use Rattle.node_table.specs.Words.{node}
 use Rattle.node_table.specs.Hashing.{Start}
 use Rattle.node_table.specs.Table.{Table}
+use Rattle.node_table.specs.Tests.{pastIndex}
 use Rattle.builder.specs.Answers.{shortB, strangerB, Built, made}
 
 -- ---- rows
@@ -22,7 +22,7 @@ shortRow t = row (shortB (length (t .nodes)) (length (t .places)) (t .count)) 1
 
 -- a column, challenge or alpha index over 65,535
 abbrev pub indexRow : ℕ → Row
-indexRow i = row (ltb 65535 i) 2
+indexRow i = row (pastIndex i) 2
 
 -- a handle of no node of this builder
 abbrev pub handleRow : Table → Expr → Row

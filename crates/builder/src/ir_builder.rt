@@ -48,7 +48,8 @@ use node_table::table::Put;
 use node_table::table::least;
 use node_table::table::push;
 use node_table::table::room;
-use node_table::table::wide;
+use node_table::tests::is_no_node;
+use node_table::tests::past_index;
 
 // How many of each the lent tables hold.
 pub struct IrBuilder {
@@ -76,9 +77,6 @@ pub enum Emitted {
     Refused(Refusal),
 }
 
-// The highest column, challenge or alpha index.
-const MOST_INDEX: usize = 65535;
-
 // By division: the count is any number.
 pub fn short_nodes(nodes: usize, places: usize, n: usize) -> bool
     ensures { λ r. ⌜ r ≡ shortB nodes places n ⌝ }
@@ -94,11 +92,7 @@ pub fn is_foreign(nodes: &[u32], n: usize, e: Expr) -> bool
     requires { ⌜ 4 * n ≤ length (now nodes) ⌝ }
     ensures { λ r. ⌜ r ≡ strangerB (now (nodes .entry)) n e ⌝ }
 {
-    let i = wide(e.id);
-    if n <= i {
-        return true;
-    }
-    nodes[4 * i + 3] != e.dim
+    is_no_node(nodes, n, e.id, e.dim)
 }
 
 // Base exactly if both are.
@@ -197,7 +191,7 @@ impl IrBuilder {
         if short_nodes(nodes.len(), places.len(), self.nodes) {
             return Answer::Refused(Refusal::ShortMemory);
         }
-        if MOST_INDEX < index {
+        if past_index(index) {
             return Answer::Refused(Refusal::OverLimit);
         }
         let w = Node {
@@ -251,7 +245,7 @@ impl IrBuilder {
         if short_nodes(nodes.len(), places.len(), self.nodes) {
             return Answer::Refused(Refusal::ShortMemory);
         }
-        if MOST_INDEX < col {
+        if past_index(col) {
             return Answer::Refused(Refusal::OverLimit);
         }
         let packed = pack_var(Var {

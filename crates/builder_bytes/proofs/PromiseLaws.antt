@@ -7,13 +7,10 @@ use Prim.Native.Nat.{ℕ, _≤_}
 use lib.Dec.{eqb}
 use lib.ListN.{length, take, drop}
 use lib.Seq.{sets}
-use borrow.Author.Tests.{ne-eqb}
 use Rattle.laws.proofs.Tests.{or-left, or-right}
-use Rattle.ir.specs.Refusals.{Said, saidOf}
-use Rattle.ir.specs.declared.refusal.Refusal.{Refusal}
+use Rattle.ir.specs.Refusals.{Said}
 use Rattle.ir.specs.declared.refusal.Refusal.the-variants.{ShortMemory}
-use Rattle.ir.proofs.RefusalLaws.{refusal-number}
-use Rattle.stored.specs.Form.{spread}
+use Rattle.stored_parts.specs.Form.{spread}
 use Rattle.byte_words.specs.Words.{whole}
 use Rattle.gaps.specs.declared.gaps.Gaps.{Gaps}
 use Rattle.gaps.specs.declared.gaps.Gaps.the-variants as Gaps
@@ -30,20 +27,6 @@ use Rattle.node_table.specs.Table.{Table, table}
 use Rattle.byte_words.specs.Rooms.{Lent, lent, tight, held, packedOn}
 use Rattle.builder_bytes.specs.Promises.{heldTable, shortTables, shortThree, shortReport, reportSaid, GivesBytes, InternsBytes, EmitBytes, GapsBytes}
 use Rattle.byte_words.proofs.RoomLaws.{roomy, lent-words, packed-after}
-
--- ---- a refusal is not done
-
-refused-not-0 : (why : Refusal) → false ≡ eqb (saidOf why .number) 0
-refused-not-0 why = sym (ne-eqb (saidOf why .number) 0 (refusal-number why))
-
-pub not-made : {r : Answer} {why : Refusal} → r ≡ Refused why → false ≡ eqb (saidOfAnswer r .number) 0
-not-made {r} {why} e = rw e (refused-not-0 why)
-
-pub not-rooted : {r : Emitted} {why : Refusal} → r ≡ Emitted.Refused why → false ≡ eqb (saidOfEmitted r .number) 0
-not-rooted {r} {why} e = rw e (refused-not-0 why)
-
-pub not-listed : {r : Gaps} {why : Refusal} → r ≡ Gaps.Refused why → false ≡ eqb (saidOfGaps r .number) 0
-not-listed {r} {why} e = rw e (refused-not-0 why)
 
 -- what the call says of 0, by the outcome
 done-by : {s o : Said} {done : Bool} → done ≡ eqb (s .number) 0 → s ≡ o → done ≡ eqb (o .number) 0

@@ -1,7 +1,7 @@
 // A history of calls, replayed over tables that are lent as long as its line says: each answer, then the program, then the
 // gaps.
 use super::perform::Outcome;
-use super::perform::perform;
+use super::perform::perform_at;
 use super::perform::refused;
 use builder::ir_builder::IrBuilder;
 use gaps::gaps::Gaps;
@@ -99,7 +99,7 @@ fn call(
     if number_at(line, at) == REPORT {
         return report(line, at, b, roots);
     }
-    perform(
+    perform_at(
         line,
         at,
         b,

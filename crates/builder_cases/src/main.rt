@@ -1,12 +1,9 @@
-// Replays histories of builder calls on standard input, and holds each answer and each word to the numbers there; then
-// runs document 01's cases of the builder. The file stdin beside this is what
-// `cargo run --release --offline -p differential --bin builder_sample` prints in rust/; the head of
+// Replays histories of builder calls on standard input, and holds each answer and each word to the numbers there. The file
+// stdin beside this is what `cargo run --release --offline -p differential --bin builder_sample` prints in rust/; the head of
 // rust/differential/src/builder/sample.rs says what the numbers are.
-mod cases;
 mod history;
 mod perform;
 
-use cases::run_cases;
 use history::replay;
 use sample::input::sample_numbers;
 use sample::line::line_end;
@@ -38,5 +35,4 @@ fn main() {
     let mut numbers = [0u64; NUMBERS];
     let count = sample_numbers(&mut numbers);
     replay_all(part(&numbers, 0, count));
-    run_cases();
 }

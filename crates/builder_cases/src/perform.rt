@@ -3,6 +3,8 @@ use builder::ir_builder::Answer;
 use builder::ir_builder::Emitted;
 use builder::ir_builder::Expr;
 use builder::ir_builder::IrBuilder;
+use builder_call::call::Call;
+use builder_call::call::perform;
 use ir::refusal::Refusal;
 use sample::answer::refusal_number;
 use sample::line::count_at;
@@ -68,32 +70,18 @@ fn signed(v: u64) -> i64 {
     !((u64::MAX - v) as i64)
 }
 
-// A cell of the main or the aux trace.
-fn cell(
-    line: &[u64],
-    at: usize,
-    main: bool,
-    b: IrBuilder,
-    nodes: &mut [u32],
-    places: &mut [u32],
-) -> Answer {
-    let offset = (number_at(line, at) % 256) as u8;
-    let col = count_at(line, plus(at, 1));
-    if main {
-        return b.main(&mut nodes[..], &mut places[..], offset, col);
-    }
-    b.aux(&mut nodes[..], &mut places[..], offset, col)
-}
-
 // A leaf but for constants, by its number in the line.
-fn leaf(line: &[u64], at: usize, b: IrBuilder, nodes: &mut [u32], places: &mut [u32]) -> Answer {
+fn leaf(line: &[u64], at: usize) -> Call {
     let from = plus(at, 1);
+    let offset = (number_at(line, from) % 256) as u8;
+    let idx = count_at(line, from);
+    let col = count_at(line, plus(at, 2));
     match number_at(line, at) {
-        1 => cell(line, from, true, b, &mut nodes[..], &mut places[..]),
-        2 => cell(line, from, false, b, &mut nodes[..], &mut places[..]),
-        3 => b.challenge(&mut nodes[..], &mut places[..], count_at(line, from)),
-        4 => b.alpha_power(&mut nodes[..], &mut places[..], count_at(line, from)),
-        _ => b.table_offset(&mut nodes[..], &mut places[..]),
+        1 => Call::Main { offset, col },
+        2 => Call::Aux { offset, col },
+        3 => Call::Challenge { idx },
+        4 => Call::AlphaPower { idx },
+        _ => Call::TableOffset,
     }
 }
 
@@ -121,21 +109,15 @@ fn constant(
     }
 }
 
-fn operation(
-    line: &[u64],
-    at: usize,
-    b: IrBuilder,
-    nodes: &mut [u32],
-    places: &mut [u32],
-) -> Answer {
-    let x = handle_at(line, plus(at, 1));
-    let y = handle_at(line, plus(at, 2));
+fn operation(line: &[u64], at: usize) -> Call {
+    let a = handle_at(line, plus(at, 1));
+    let b = handle_at(line, plus(at, 2));
     match number_at(line, at) {
-        10 => b.add(&mut nodes[..], &mut places[..], x, y),
-        11 => b.sub(&mut nodes[..], &mut places[..], x, y),
-        12 => b.mul(&mut nodes[..], &mut places[..], x, y),
-        13 => b.neg(&mut nodes[..], &mut places[..], x),
-        _ => b.embed(&mut nodes[..], &mut places[..], x),
+        10 => Call::Add { a, b },
+        11 => Call::Sub { a, b },
+        12 => Call::Mul { a, b },
+        13 => Call::Neg { a },
+        _ => Call::Embed { a },
     }
 }
 
@@ -154,7 +136,7 @@ fn make(
         return IrBuilder::new(&mut nodes[..], &mut places[..], &mut bases[..]);
     }
     if call < 6 {
-        return leaf(line, at, b, &mut nodes[..], &mut places[..]);
+        return perform(b, leaf(line, at), &mut nodes[..], &mut places[..]);
     }
     if call < 10 {
         return constant(
@@ -167,11 +149,11 @@ fn make(
             &mut exts[..],
         );
     }
-    operation(line, at, b, &mut nodes[..], &mut places[..])
+    perform(b, operation(line, at), &mut nodes[..], &mut places[..])
 }
 
 // The call of a builder that stands at a place.
-pub fn perform(
+pub fn perform_at(
     line: &[u64],
     at: usize,
     b: IrBuilder,

@@ -12,7 +12,7 @@ use Rattle.blob_rules.specs.Blob.{Blob}
 use Rattle.walk.proofs.Single.{walk-single}
 use Rattle.stored.specs.declared.read.ReadStored.{ReadStored}
 use Rattle.stored.specs.declared.read.ReadStored.the-variants as ReadStored
-use Rattle.stored.specs.Form.{Tables}
+use Rattle.stored_parts.specs.Form.{Tables}
 use Rattle.stored.proofs.Single.{read-stored-single}
 use Rattle.byte_words.specs.Reading.{blobIn}
 use Rattle.byte_walk.specs.Walking.{Frame, Evals, Memory, putEvals, shortRooms, packedOn, Walked, WalkBytes, WalkStored}

@@ -25,9 +25,9 @@ use Rattle.blob_rules.specs.Blob.{Blob}
 use Rattle.walk.specs.Walk.{WalkAnswer}
 use Rattle.stored.specs.declared.read.ReadStored.{ReadStored}
 use Rattle.stored.specs.declared.read.ReadStored.the-variants as ReadStored
-use Rattle.stored.specs.Form.{Tables, spread}
+use Rattle.stored_parts.specs.Form.{Tables, spread}
 use Rattle.stored.specs.Answer.{ReadAnswer}
-use Rattle.stored.proofs.FormLaws.{sets-long, words-long}
+use Rattle.stored_parts.proofs.WordLaws.{sets-long, words-long}
 use Rattle.byte_words.specs.Words.{whole, wordsIn}
 use Rattle.byte_words.specs.Reading.{blobIn}
 use Rattle.byte_walk.specs.Walking.{Frame, Evals, frameWords, evalWords, putFrame, putEvals, tight, shortFrameRooms, shortEvalRooms, FrameFits, EvalsFit, lentIn, Memory, shortRooms, Packed, Walked, WalkBytes, WalkStored}

@@ -21,7 +21,7 @@ use Rattle.blob_rules.specs.Blob.{Blob}
 use Rattle.walk.specs.Walk.{WalkAnswer}
 use Rattle.stored.specs.declared.read.ReadStored.{ReadStored}
 use Rattle.stored.specs.declared.read.ReadStored.the-variants as ReadStored
-use Rattle.stored.specs.Form.{Tables, spread}
+use Rattle.stored_parts.specs.Form.{Tables, spread}
 use Rattle.stored.specs.Answer.{ReadAnswer}
 use Rattle.byte_words.specs.Words.{whole, wordsIn}
 use Rattle.byte_words.specs.Reading.{blobIn}

@@ -12,9 +12,9 @@ use Rattle.blob_rules.specs.declared.blob.BlobCounts.{BlobCounts}
 use Rattle.stored.specs.declared.read.ReadStored.{ReadStored}
 use Rattle.stored.specs.declared.read.ReadStored.the-variants as ReadStored
 use Rattle.stored.specs.declared.write.Stored.the-variants as Stored
-use Rattle.stored.specs.Form.{Tables, countsIn, tablesIn}
+use Rattle.stored_parts.specs.Form.{Tables, countsIn, tablesIn}
 use Rattle.stored.specs.Answer.{put, readSaid, ReadAnswer}
-use Rattle.stored.proofs.FormLaws.{sets-long}
+use Rattle.stored_parts.proofs.WordLaws.{sets-long}
 
 pub read-why : (r : ReadStored) {why why′ : Refusal} → r ≡ ReadStored.Refused why → r ≡ ReadStored.Refused why′ → why ≡ why′
 read-why r p q = cc

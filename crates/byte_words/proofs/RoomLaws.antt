@@ -11,9 +11,9 @@ use lib.Seq.{sets, sets-eq, length-sets, take-at}
 use borrow.Author.Tests.{ltb-false}
 use Rattle.laws.proofs.Parts.{sets-after}
 use Rattle.ir.specs.Refusals.{Said}
-use Rattle.stored.specs.Form.{spread}
+use Rattle.stored_parts.specs.Form.{spread}
 use Rattle.byte_words.specs.Words.{whole}
-use Rattle.stored.proofs.FormLaws.{words-long, sets-long}
+use Rattle.stored_parts.proofs.WordLaws.{words-long, sets-long}
 use Rattle.byte_words.proofs.WordLaws.{unpacked}
 use Rattle.byte_words.specs.Rooms.{Lent, lent, tight, held, packedOn}
 

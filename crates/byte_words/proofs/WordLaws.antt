@@ -8,8 +8,8 @@ use lib.ListN.{length, getD, set, take, drop}
 use lib.Seq.{sets, take-all, length-take-le}
 use Rattle.bytes.specs.Bytes.{leValue, leBytes}
 use Rattle.laws.proofs.Parts.{sets-here}
-use Rattle.stored.specs.Form.{words, spread}
-use Rattle.stored.proofs.FormLaws.{words-set, words-long, spread-set, drop-none}
+use Rattle.stored_parts.specs.Form.{words, spread}
+use Rattle.stored_parts.proofs.WordLaws.{words-set, words-long, spread-set, drop-none}
 use Rattle.byte_words.specs.Words.{whole, wordsIn}
 
 -- the next word unpacked

@@ -2,7 +2,7 @@
 -- Assumes nothing.
 use Rattle.blob_rules.specs.declared.blob.BlobCounts.{BlobCounts}
 use Rattle.blob_rules.specs.Blob.{Blob}
-use Rattle.stored.specs.Form.{Tables}
+use Rattle.stored_parts.specs.Form.{Tables}
 
 -- a blob, from its counts and the rooms that it was read into
 abbrev pub blobIn : BlobCounts → Tables → Blob

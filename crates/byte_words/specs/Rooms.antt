@@ -7,7 +7,7 @@ use lib.Dec.{ltb}
 use lib.ListN.{length}
 use lib.Seq.{sets}
 use Rattle.ir.specs.Refusals.{onDone, Said}
-use Rattle.stored.specs.Form.{spread}
+use Rattle.stored_parts.specs.Form.{spread}
 use Rattle.byte_words.specs.Words.{wordsIn}
 
 -- bytes, and the room of words that is lent beside them

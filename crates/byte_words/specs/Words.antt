@@ -3,7 +3,7 @@
 use mathlib.Core.List.{List}
 use Prim.Native.Nat.{ℕ, _/_}
 use lib.ListN.{length}
-use Rattle.stored.specs.Form.{words}
+use Rattle.stored_parts.specs.Form.{words}
 
 -- how many whole words of n bytes each
 abbrev pub whole : ℕ → List ℕ → ℕ

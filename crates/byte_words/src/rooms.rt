@@ -4,7 +4,7 @@ ghost use mathlib.Core.Path.{_≡_};
 ghost use Prim.Native.Nat.{_≤_, _*_};
 ghost use lib.ListN.{length, take};
 ghost use lib.Seq.{sets};
-ghost use Rattle.stored.specs.Form.{spread};
+ghost use Rattle.stored_parts.specs.Form.{spread};
 ghost use Rattle.byte_words.specs.Words.{whole};
 ghost use Rattle.byte_words.specs.Rooms.{shortRoom};
 use super::words::pack64;

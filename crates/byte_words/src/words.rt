@@ -3,7 +3,7 @@ ghost use mathlib.Core.Path.{_≡_};
 ghost use Prim.Native.Nat.{_*_, _≤_};
 ghost use lib.ListN.{length};
 ghost use lib.Seq.{sets};
-ghost use Rattle.stored.specs.Form.{spread};
+ghost use Rattle.stored_parts.specs.Form.{spread};
 ghost use Rattle.byte_words.specs.Words.{whole, wordsIn};
 use bytes::bytes::put_u64;
 use bytes::bytes::u32_at;

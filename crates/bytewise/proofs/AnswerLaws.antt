@@ -25,7 +25,7 @@ use Rattle.stored.specs.declared.read.ReadStored.{ReadStored}
 use Rattle.stored.specs.declared.read.ReadStored.the-variants as ReadStored
 use Rattle.stored.specs.declared.write.Stored.{Stored}
 use Rattle.stored.specs.declared.write.Stored.the-variants as Stored
-use Rattle.stored.specs.Form.{Tables}
+use Rattle.stored_parts.specs.Form.{Tables}
 use Rattle.stored.specs.Answer.{put, ReadAnswer, WriteAnswer}
 use Rattle.byte_words.specs.Words.{whole}
 use Rattle.bytewise.specs.Lowering.{wordsOf, shortFor, refusedEarly, whyEarly, Roomy, program, tablesOut, LowerFile, LowerStored}
@@ -33,8 +33,6 @@ use Rattle.byte_words.proofs.WordLaws.{unpacked}
 use Rattle.bytewise.specs.Checking.{CheckStored}
 use Rattle.byte_words.specs.Reading.{blobIn}
 use Rattle.byte_words.proofs.ReadingLaws.{read-why, read-counts, read-both, as-long}
-
--- ---- reading: one case or the other
 
 -- ---- the check
 
@@ -150,5 +148,3 @@ module _ (c : Counts) (t rooms : Tables) {lists : Lists} {out : Output} {file : 
         unpacked = λ q. u;
         lowering = λ q. subst (λ (x : Tables). LowerFile (program c x) lists out file answer lists′ out′ file′) (fronts-are t rooms (roomy-early c t rooms (sym e ∙ h)) u) f;
       }
-
--- ---- rooms that a file was read into

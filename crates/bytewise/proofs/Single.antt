@@ -16,7 +16,7 @@ use Rattle.lower.proofs.Single.{lower-single}
 use Rattle.stored.specs.declared.read.ReadStored.{ReadStored}
 use Rattle.stored.specs.declared.read.ReadStored.the-variants as ReadStored
 use Rattle.stored.specs.declared.write.Stored.{Stored}
-use Rattle.stored.specs.Form.{Tables}
+use Rattle.stored_parts.specs.Form.{Tables}
 use Rattle.stored.specs.Answer.{WriteAnswer}
 use Rattle.stored.proofs.Single.{read-stored-single, write-stored-single}
 use Rattle.bytewise.specs.Checking.{CheckStored}

@@ -11,7 +11,7 @@ use Rattle.blob_rules.specs.declared.blob.BlobCounts.{BlobCounts}
 use Rattle.blob_rules.specs.Check.{CheckAnswer}
 use Rattle.stored.specs.declared.read.ReadStored.{ReadStored}
 use Rattle.stored.specs.declared.read.ReadStored.the-variants as ReadStored
-use Rattle.stored.specs.Form.{Tables}
+use Rattle.stored_parts.specs.Form.{Tables}
 use Rattle.stored.specs.Answer.{ReadAnswer}
 use Rattle.byte_words.specs.Reading.{blobIn}
 

@@ -16,7 +16,7 @@ use Rattle.lower_parts.specs.declared.parts.Lowering.the-variants as Lowering
 use Rattle.lower_parts.specs.Answer.{Lists, Output, LowerAnswer}
 use Rattle.stored.specs.declared.write.Stored.{Stored}
 use Rattle.stored.specs.declared.write.Stored.the-variants as Stored
-use Rattle.stored.specs.Form.{Tables}
+use Rattle.stored_parts.specs.Form.{Tables}
 use Rattle.stored.specs.Answer.{put, WriteAnswer}
 use Rattle.byte_words.specs.Words.{whole, wordsIn}
 

@@ -1,2 +1,2 @@
-// The blob, after device.rs: its words, and the check that is exact.
+// The blob check, after device.rs: it is exact.
 pub mod check;

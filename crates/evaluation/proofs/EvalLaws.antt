@@ -3,26 +3,27 @@
 use mathlib.Core.Bool.{cond}
 use mathlib.Core.List.{List}
 use mathlib.Core.Path.{_≡_, refl, sym, ap, _∙_}
-use Prim.Native.Nat.{ℕ, suc, _+_, _*_, _%_, _<_, _≤_}
+use Prim.Native.Nat.{ℕ, _+_, _*_, _%_, _<_, _≤_, _-_}
 use native.Mathlib.Numerals.{add-one}
 use native.Mathlib.Omega.{arith}
 use lib.Dec.{ltb, lit<}
 use lib.ListN.{length, getD, set, take, drop, length-set}
 use lib.Seq.{sets, length-sets}
 use borrow.Author.Tests.{lt-ltb, le-ltb}
-use Rattle.laws.specs.Lists.{tabulate, block}
+use Rattle.laws.specs.Lists.{tabulate}
 use Rattle.laws.proofs.Tabulate.{tabulate-self}
-use Rattle.field.specs.Base.{p, Least}
+use Rattle.field.specs.Base.{p, Least, _≈_}
 use Rattle.extension.specs.Ext.{limb, LeastLimbs}
-use Rattle.extension.specs.Tower.{goldilocks, remainders}
+use Rattle.extension.specs.Tower.{remainders}
 use Rattle.field.proofs.Laws.{least-exact}
 use Rattle.extension.proofs.ExtLaws.{least-limbs-exact}
-use Rattle.values.specs.Values.{Value, toExt}
+use Rattle.values.specs.Values.{Value}
 use Rattle.evaluation.specs.Evals.{baseWord, extWords, baseEvals, extEvals}
 use Rattle.values.specs.Room.{RoomHolds}
 use Rattle.evaluation.specs.Writes.{WritesRoot, WritesRoots, Completes}
 use Rattle.values.specs.Operations.{StandsIn}
 use Rattle.values.proofs.OperationLaws.{first-word, limb-words}
+use native.Mathlib.Nat.{mod-eq-of-lt}
 
 pub word-is : (room : List ℕ) (root r : ℕ) (v : Value ℕ (List ℕ)) → Least (getD room (4 * root + 1) 0) r → StandsIn room v root → r ≡ baseWord v
 unfolding remainders
@@ -77,3 +78,7 @@ pub completes : {env : ℕ → Value ℕ (List ℕ)} {n leading count : ℕ} {ro
 completes {env} {n} {leading} {count} {roots} h w b =
     let q = w .follows env (λ r l. h .node (getD roots r 0) (b r l) .stands) in
     record { base-written = q .0; ext-written = q .1; room-holds = h }
+
+-- words below p that stand for one element are one word
+pub one-word : {x y v : ℕ} → x ≈ v → y ≈ v → x < p → y < p → x ≡ y
+one-word h k a b = sym (mod-eq-of-lt a) ∙ h .same ∙ sym (k .same) ∙ mod-eq-of-lt b

@@ -1,20 +1,20 @@
 -- What the shared refusals let through.
 -- Assumes nothing.
 use mathlib.Core.Bool.{Bool, true, false, _&&_, _||_}
-use mathlib.Core.Path.{_≡_, refl}
-use Prim.Native.Nat.{ℕ, _*_, _<_, _≤_, min}
+use mathlib.Core.Path.{_≡_, refl, sym, ap, _∙_}
+use Prim.Native.Nat.{ℕ, _*_, _<_, _≤_, min, _+_}
 use native.Mathlib.Nat.{mul-le-mul, le-of-lt, min-eq-left, min-eq-right}
 use lib.Dec.{ltb}
 use borrow.Author.Tests.{ltb-false, lt-ltb, le-ltb}
 use Rattle.laws.proofs.Tests.{or-left, or-right}
-use mathlib.Core.List.{List}
+use mathlib.Core.List.{List, [], _∷_, _++_}
 use mathlib.Core.Option.{none}
 use Rattle.laws.specs.Folds.{lowest}
 use Rattle.ir.specs.declared.frame.Shape.{Shape}
 use Rattle.ir.specs.declared.program.Counts.{Counts}
 use Rattle.ir.specs.Program.{tooManyNodes, tooManyRoots, shortTables, illFormed}
 use Rattle.ir.specs.Shape.{overShape}
-use Rattle.ir.specs.Refusals.{anyHolds, found}
+use Rattle.ir.specs.Refusals.{anyHolds, found, Row}
 use Rattle.ir.specs.WellFormed.{WellFormed}
 use Rattle.ir.proofs.ProgramLaws.{Long, long}
 use Rattle.ir.proofs.RefusalLaws.{not-found}
@@ -109,3 +109,12 @@ form-ok c m nodes roots h =
       formed = well-formed c nodes roots (not-found i (or-left (found i) (found o || false) h));
       inside = not-found o (or-left (found o) false (or-right (found i) (found o || false) h));
     }
+
+-- a row of one of two parts holds
+pub any-append : (a b : List Row) → anyHolds (a ++ b) ≡ (anyHolds a || anyHolds b)
+any-append [] b = refl
+any-append (r ∷ rs) b = ap (λ (t : Bool). r .holds || t) (any-append rs b) ∙ sym (or-assoc (r .holds) (anyHolds rs) (anyHolds b))
+  where
+    or-assoc : (x y z : Bool) → (x || y || z) ≡ (x || (y || z))
+    or-assoc true y z = refl
+    or-assoc false y z = refl

@@ -1,7 +1,7 @@
--- The call that lowers: done and refused, and that its promise leaves one answer and one memory.
+-- The call that lowers: a refusal writes no value, and its promise leaves one answer and one memory.
 -- Assumes nothing.
 use mathlib.Core.Bool.{cond}
-use mathlib.Core.Path.{_≡_, refl, sym, ap, _∙_}
+use mathlib.Core.Path.{_≡_, sym, ap, _∙_}
 use Prim.Native.Nat.{ℕ}
 use lib.Dec.{eqb}
 use borrow.Author.Tests.{ne-eqb}
@@ -9,9 +9,7 @@ use Rattle.ir.specs.declared.refusal.Refusal.{Refusal}
 use Rattle.ir.specs.Refusals.{saidOf}
 use Rattle.ir.specs.Program.{Program}
 use Rattle.ir.proofs.RefusalLaws.{refusal-number}
-use Rattle.blob_rules.specs.declared.blob.BlobCounts.{BlobCounts}
 use Rattle.lower_parts.specs.declared.parts.Lowering.{Lowering}
-use Rattle.lower_parts.specs.declared.parts.Lowering.the-variants.{Lowered, Refused}
 use Rattle.lower_parts.specs.Answer.{Lists, Output, saidOfLowering, lowerSaid, LowerAnswer}
 use Rattle.lower.proofs.Single.{lower-single}
 use Rattle.host_answer.specs.Answer.{answerOf, valueOnDone}
@@ -19,24 +17,8 @@ use Rattle.host.specs.LowerCalls.{CalledLower}
 use Rattle.host.proofs.PlaceLaws.{Parts, parts-of, lower-fits}
 
 -- a refusal writes no value
-kept : (why : Refusal) (k old : ℕ) → old ≡ valueOnDone (saidOf why) k old
+pub kept : (why : Refusal) (k old : ℕ) → old ≡ valueOnDone (saidOf why) k old
 kept why k old = rw (ne-eqb (saidOf why .number) 0 (refusal-number why))
-
-module _ {P : Lowering → Type 0} {o : Lowering} {count bs xs : ℕ} (p : P o) where
-  pub lower-called : (k : BlobCounts) → o ≡ Lowered k → CalledLower P 0 count (k .nodes) bs (k .«base_slots») xs (k .«ext_slots»)
-  lower-called k e =
-      record { outcome = Lowered k; promised = rw e at p; answered = refl; counted = refl; base-slots = refl; ext-slots = refl }
-
-  pub lower-rejected : {why : Refusal} {a : ℕ} → o ≡ Refused why → a ≡ answerOf (saidOf why) → CalledLower P a count count bs bs xs xs
-  lower-rejected {why} e q =
-      record {
-        outcome = Refused why;
-        promised = rw e at p;
-        answered = q;
-        counted = kept why 0 count;
-        base-slots = kept why 5 bs;
-        ext-slots = kept why 6 xs;
-      }
 
 pub cir-lower-single : {p : Program} {b b₁ b₂ : Lists} {o o₁ o₂ : Output} {a a′ count count₁ count₂ bs bs₁ bs₂ xs xs₁ xs₂ : ℕ}
     → CalledLower (λ w. LowerAnswer p b o w b₁ o₁) a count count₁ bs bs₁ xs xs₁ → CalledLower (λ w. LowerAnswer p b o w b₂ o₂) a′ count count₂ bs bs₂ xs xs₂

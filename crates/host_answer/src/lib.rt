@@ -1,3 +1,3 @@
-// What every archive of calls says: an answer as one number, and an extension value from its limbs.
+// What the calls share: an answer as one number, an extension value from its limbs, and counts and shapes from numbers.
 pub mod answer;
 pub mod numbers;

@@ -1,7 +1,7 @@
--- The call that lowers to bytes, done and refused; and each call on bytes leaves one answer and one memory.
+-- A refused lowering writes no length; and each call on bytes leaves one answer and one memory.
 -- Assumes nothing.
 use mathlib.Core.List.{List}
-use mathlib.Core.Path.{_≡_, refl, sym, ap, _∙_}
+use mathlib.Core.Path.{_≡_, sym, ap, _∙_}
 use Prim.Native.Nat.{ℕ}
 use borrow.Author.Tests.{ne-eqb}
 use Rattle.ir.specs.declared.program.Counts.{Counts}
@@ -12,8 +12,7 @@ use Rattle.ir.specs.Refusals.{saidOf, saidOfOutcome}
 use Rattle.ir.proofs.RefusalLaws.{refusal-number}
 use Rattle.lower_parts.specs.Answer.{Lists, Output}
 use Rattle.stored.specs.declared.write.Stored.{Stored}
-use Rattle.stored.specs.declared.write.Stored.the-variants as Stored
-use Rattle.stored.specs.Form.{Tables}
+use Rattle.stored_parts.specs.Form.{Tables}
 use Rattle.stored.specs.Answer.{saidOfStored}
 use Rattle.bytewise.specs.Checking.{CheckStored}
 use Rattle.bytewise.specs.Lowering.{LowerStored}
@@ -24,19 +23,9 @@ use Rattle.host_answer.specs.Answer.{answerOf, valueOnDone}
 use Rattle.host_answer.specs.Called.{Called}
 use Rattle.host_bytes.specs.ByteCalls.{CalledStored}
 
-module _ {P : Stored → Type 0} {o : Stored} {length : ℕ} (p : P o) where
-  pub stored-called : {bytes : ℕ} → o ≡ Stored.Written bytes → CalledStored P 0 length bytes
-  stored-called {bytes} e = record { outcome = Stored.Written bytes; promised = rw e at p; answered = refl; written = refl }
-
-  -- a refusal writes no length
-  pub stored-rejected : {why : Refusal} {a : ℕ} → o ≡ Stored.Refused why → a ≡ answerOf (saidOf why) → CalledStored P a length length
-  stored-rejected {why} e q =
-      record {
-        outcome = Stored.Refused why;
-        promised = rw e at p;
-        answered = q;
-        written = rw (ne-eqb (saidOf why .number) 0 (refusal-number why));
-      }
+-- a refusal writes no length
+pub no-length : (why : Refusal) (length : ℕ) → length ≡ valueOnDone (saidOf why) 0 length
+no-length why length = rw (ne-eqb (saidOf why .number) 0 (refusal-number why))
 
 pub cir-check-stored-single : {s : Shape} {file : List ℕ} {rooms rooms₁ rooms₂ : Tables} {marks marks₁ marks₂ : List ℕ} {a a′ : ℕ}
     → Called (λ o. CheckStored s file rooms marks o rooms₁ marks₁) a → Called (λ o. CheckStored s file rooms marks o rooms₂ marks₂) a′

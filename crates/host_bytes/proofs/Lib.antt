@@ -1,1 +1,2 @@
+-- Laws of the calls on bytes.
 pub mod ByteCallLaws

@@ -1,9 +1,12 @@
 // Check, lowering and walk as calls on numbers and byte slices. An answer is one u64: the number of document 01's table, and
 // 256 times the place that it names. Word rooms are lent beside the bytes.
 ghost use mathlib.Core.List.{[], _∷_};
+ghost use mathlib.Core.Path.{_≡_};
 ghost use Rattle.bytewise.specs.Checking.{CheckStored};
 ghost use Rattle.bytewise.specs.Lowering.{LowerStored};
 ghost use Rattle.byte_walk.specs.Walking.{WalkStored};
+ghost use Rattle.stored.specs.Answer.{saidOfStored};
+ghost use Rattle.host_answer.specs.Answer.{answerOf, valueOnDone};
 ghost use Rattle.host_answer.specs.Called.{Called};
 ghost use Rattle.host_answer.specs.Numbers.{counts, shape};
 ghost use Rattle.host_bytes.specs.ByteCalls.{CalledStored};
@@ -35,6 +38,20 @@ pub extern "C" fn cir_check_stored(
 {
     let s = shape_of(steps, width, auxes, rap, powers);
     coded_outcome(check_stored(s, file, nodes, bases, exts, roots, marks))
+}
+
+// Apart, so that the call that lends so much memory has one end. The file's length is written on 0 alone.
+fn coded_stored(told: Stored, length: &mut u64) -> u64
+    ensures { λ a. ⌜ a ≡ answerOf (saidOfStored told) ⌝ }
+    ensures { λ _. ⌜ now (length .exit) ≡ valueOnDone (saidOfStored told) 0 (now (length .entry)) ⌝ }
+{
+    match told {
+        Stored::Written { bytes } => {
+            *length = bytes as u64;
+            0
+        }
+        Stored::Refused(why) => coded_refusal(why),
+    }
 }
 
 // The rooms nw, bw, xw and tw take the words of nodes, base constants, extension constants and roots. The file's length is
@@ -69,7 +86,7 @@ pub extern "C" fn cir_lower_stored(
     ensures { λ a. ⌜ CalledStored (λ o. LowerStored (counts n b x r leading) (record { nodes = now (nodes .entry); bases = now (bases .entry); exts = now (exts .entry); roots = now (roots .entry) }) (record { nodes = now (nw .entry); bases = now (bw .entry); exts = now (xw .entry); roots = now (tw .entry) }) (record { used = now (used .entry); last = now (last .entry); root = now (root .entry); slot = now (slot .entry); free = now (free .entry) }) (record { nodes = now (blob .entry); bases = now (narrow .entry); exts = now (wide .entry); roots = now (ends .entry) }) (now (file .entry)) o (record { nodes = now (nw .exit); bases = now (bw .exit); exts = now (xw .exit); roots = now (tw .exit) }) (record { used = now (used .exit); last = now (last .exit); root = now (root .exit); slot = now (slot .exit); free = now (free .exit) }) (record { nodes = now (blob .exit); bases = now (narrow .exit); exts = now (wide .exit); roots = now (ends .exit) }) (now (file .exit))) a (now (length .entry)) (now (length .exit)) ⌝ }
 {
     let c = counts_of(n, b, x, r, leading);
-    match lower_stored(
+    let told = lower_stored(
         c,
         nodes,
         bases,
@@ -89,13 +106,8 @@ pub extern "C" fn cir_lower_stored(
         wide,
         ends,
         file,
-    ) {
-        Stored::Written { bytes } => {
-            *length = bytes as u64;
-            0
-        }
-        Stored::Refused(why) => coded_refusal(why),
-    }
+    );
+    coded_stored(told, length)
 }
 
 // The rooms mw, aw, cw, pw, bw and xw take the words of main and aux cells, challenges, alpha powers and of base and

@@ -1,3 +1,4 @@
+// The handle and the counts that a builder's call hands out, on 0 alone.
 ghost use mathlib.Core.Path.{_≡_};
 ghost use Rattle.builder.specs.Answers.{saidOfAnswer, builderAfter};
 ghost use Rattle.host_handle.specs.Handles.{handle, lentCounts, Handed};

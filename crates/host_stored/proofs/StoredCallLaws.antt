@@ -15,7 +15,7 @@ use Rattle.stored.specs.declared.write.Stored.{Stored}
 use Rattle.stored.specs.declared.write.Stored.the-variants as Stored
 use Rattle.stored.specs.declared.read.ReadStored.{ReadStored}
 use Rattle.stored.specs.declared.read.ReadStored.the-variants as ReadStored
-use Rattle.stored.specs.Form.{Tables, countsIn}
+use Rattle.stored_parts.specs.Form.{Tables, countsIn}
 use Rattle.stored.specs.Answer.{saidOfStored, WriteAnswer, saidOfRead, ReadAnswer}
 use Rattle.listing.specs.Listing.{blobList, Puts}
 use Rattle.stored.proofs.AnswerLaws.{read-ok}

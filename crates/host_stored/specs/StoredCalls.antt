@@ -9,7 +9,7 @@ use lib.ListN.{length}
 use lib.Seq.{sets}
 use Rattle.ir.specs.Refusals.{Said, row, first, gives}
 use Rattle.blob_rules.specs.declared.blob.BlobCounts.{BlobCounts}
-use Rattle.stored.specs.Form.{Tables, stored, countsIn, tablesIn}
+use Rattle.stored_parts.specs.Form.{Tables, stored, countsIn, tablesIn}
 use Rattle.stored.specs.Answer.{writeSaid, readSaid, put}
 use Rattle.listing.specs.Listing.{blobList}
 use Rattle.host_answer.specs.Answer.{answerOf, valueOnDone}

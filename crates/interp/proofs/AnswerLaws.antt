@@ -1,15 +1,14 @@
 -- From the refusals' answer and the evaluation to an evaluator's promise.
 -- Assumes nothing.
-use mathlib.Core.Bool.{Bool, true, false, cond, _&&_, _||_}
+use Rattle.evaluation.proofs.RefuseLaws.{any-append, MemoryOk, memory-ok, FormOk, form-ok}
+use mathlib.Core.Bool.{true, false, _&&_}
 use mathlib.Core.List.{List, [], _∷_, _++_}
 use mathlib.Core.Path.{_≡_, refl, sym, ap, _∙_}
 use Prim.Native.Nat.{ℕ, _+_, _*_, _<_, _≤_, min}
-use native.Mathlib.Nat.{min-eq-left, min-eq-right, le-of-lt}
 use native.Mathlib.Omega.{arith}
 use lib.Dec.{leb, ltb}
 use lib.ListN.{length, getD}
-use borrow.Author.Tests.{leb-false, ltb-false, lt-ltb, ltb-true}
-use Rattle.laws.proofs.Cases.{by-test}
+use borrow.Author.Tests.{leb-false, ltb-false, lt-ltb}
 use Rattle.laws.proofs.Tests.{clash, or-left, or-right}
 use Rattle.ir.specs.declared.program.Counts.{Counts}
 use Rattle.ir.specs.declared.frame.Shape.{Shape}
@@ -17,7 +16,7 @@ use Rattle.ir.specs.declared.refusal.Refusal.{Refusal}
 use Rattle.ir.specs.declared.refusal.Outcome.{Outcome}
 use Rattle.ir.specs.declared.refusal.Outcome.the-variants.{Done, Refused}
 use Rattle.ir.specs.Program.{numBase}
-use Rattle.ir.specs.Refusals.{Said, Row, row, rowAt, gives, saidOf, saidOfOutcome, first, anyHolds}
+use Rattle.ir.specs.Refusals.{Row, row, rowAt, gives, saidOf, saidOfOutcome, first, anyHolds}
 use Rattle.ir.proofs.RefusalLaws.{numbered, done-rows, loud-rows, first-any, first-none}
 use Rattle.values.specs.declared.frame.Limits.{Limits}
 use Rattle.evaluation.specs.declared.frame.Lengths.{Lengths}
@@ -29,11 +28,10 @@ use Rattle.field.specs.Base.{Least}
 use Rattle.evaluation.specs.declared.evals.Evaluated.the-variants.{Base, Rejected}
 use Rattle.evaluation.specs.Evals.{baseWord}
 use Rattle.values.specs.Room.{RoomHolds}
-use Rattle.evaluation.specs.Writes.{RootIn, RootsIn, Completes}
+use Rattle.evaluation.specs.Writes.{RootsIn, Completes}
 use Rattle.evaluation.specs.Evaluation.{memoryRows, formRows, shortEvals, extRoot, proverRest, proverRows, verifierRest, verifierRows, rowShape, askedRow, rowRest, rowRows, lengths, Evaluates, VerifierEvaluates, RowEvaluates}
 use Rattle.evaluation.proofs.EvalLaws.{word-is}
 use Rattle.values.proofs.ReadyLaws.{ready, prover-fits, verifier-fits, row-fits}
-use Rattle.evaluation.proofs.RefuseLaws.{MemoryOk, memory-ok, FormOk, form-ok}
 
 -- ---- the promise, refused and done
 
@@ -52,14 +50,6 @@ module _ (rows : List Row) {env : ℕ → Value ℕ (List ℕ)} {n leading count
   answer-done m e w = answer-quiet rows (done-rows rows m e h) w
 
 -- ---- rows in two parts
-
-pub any-append : (a b : List Row) → anyHolds (a ++ b) ≡ (anyHolds a || anyHolds b)
-any-append [] b = refl
-any-append (r ∷ rs) b = ap (λ (t : Bool). r .holds || t) (any-append rs b) ∙ sym (or-assoc (r .holds) (anyHolds rs) (anyHolds b))
-  where
-    or-assoc : (x y z : Bool) → (x || y || z) ≡ (x || (y || z))
-    or-assoc true y z = refl
-    or-assoc false y z = refl
 
 pub first-part : (a b : List Row) → anyHolds (a ++ b) ≡ false → anyHolds a ≡ false
 first-part a b h = or-left (anyHolds a) (anyHolds b) (sym (any-append a b) ∙ h)

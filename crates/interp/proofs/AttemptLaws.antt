@@ -1,38 +1,36 @@
 -- The plain evaluator's attempt: from what it looked at, that no row refuses; and its answer.
 -- Assumes nothing.
-use mathlib.Core.Bool.{Bool, true, false, cond, not, _&&_, _||_}
-use mathlib.Core.List.{List, [], _∷_, _++_}
-use mathlib.Core.Option.{Option, none}
-use mathlib.Core.Path.{_≡_, refl, sym, ap, _∙_}
-use Prim.Native.Nat.{ℕ, _*_, _<_, _≤_}
+use mathlib.Core.Bool.{Bool, true, false, not}
+use mathlib.Core.List.{List}
+use mathlib.Core.Option.{none}
+use mathlib.Core.Path.{_≡_, refl, _∙_}
+use Prim.Native.Nat.{ℕ, _<_}
 use native.Mathlib.Nat.{le-refl}
 use lib.Dec.{leb}
 use lib.ListN.{length, getD}
-use borrow.Author.Tests.{leb-false}
-use Rattle.laws.specs.Folds.{lowest, orElse}
-use Rattle.laws.proofs.Folds.{lowest-none, none-lowest}
+use Rattle.laws.specs.Folds.{lowest}
+use Rattle.laws.proofs.Folds.{none-lowest}
 use Rattle.laws.proofs.Tests.{clash, neither}
 use Rattle.ir.specs.declared.program.Counts.{Counts}
 use Rattle.ir.specs.declared.frame.Shape.{Shape}
 use Rattle.ir.specs.Words.{nodeAt}
 use Rattle.ir.specs.declared.refusal.Outcome.the-variants.{Done}
 use Rattle.ir.specs.Program.{numBase, nodeOk, illFormed}
-use Rattle.ir.specs.Refusals.{Row, row, rowAt, found, anyHolds}
+use Rattle.ir.specs.Refusals.{Row, anyHolds}
 use Rattle.ir.proofs.ProgramLaws.{within}
 use Rattle.values.specs.declared.frame.Limits.{Limits}
 use Rattle.evaluation.specs.declared.frame.Lengths.{Lengths}
 use Rattle.values.specs.Values.{Value, values}
 use Rattle.values.specs.Frame.{Lent, leaves, nodeOutside, proverStrides, frameLimits}
-use Rattle.values.specs.Room.{RoomHolds}
-use Rattle.evaluation.specs.Evaluation.{memoryRows, formRows, shortEvals, extRoot, proverRest, proverRows, lengths, ProverAnswer}
+use Rattle.evaluation.specs.Evaluation.{memoryRows, proverRest, proverRows, lengths, ProverAnswer}
 use Rattle.evaluation.specs.Writes.{RootsIn, WritesRoots}
-use Rattle.trial_parts.specs.Trial.{Narrow, Tryable, NodeFits, Trial}
+use Rattle.trial_parts.specs.Trial.{Tryable, NodeFits, Trial}
 use Rattle.evaluation.specs.Attempt.{Sufficient, Attempt}
 use Rattle.extension.specs.Tower.{goldilocks}
-use Rattle.interp.proofs.AnswerLaws.{answer-quiet, any-append, prover-ok, Asked, prover-asked}
+use Rattle.interp.proofs.AnswerLaws.{answer-quiet, prover-ok, Asked, prover-asked}
+use Rattle.evaluation.proofs.RefuseLaws.{any-append, memory-ok}
 use Rattle.evaluation.proofs.EvalLaws.{completes}
 use Rattle.values.proofs.ReadyLaws.{prover-fits}
-use Rattle.evaluation.proofs.RefuseLaws.{memory-ok}
 
 -- every node passed, and every root was found below the count: 7 and 13 do not hold
 module _ (c : Counts) (m : Limits) (nodes roots : List ℕ) (h : (j : ℕ) → j < c .nodes → NodeFits c m nodes j (nodeAt nodes j)) where

@@ -1,7 +1,6 @@
 -- The answers of the shared refusals, in the evaluators around them.
 -- Assumes nothing.
-use mathlib.Core.Bool.{false}
-use mathlib.Core.List.{List, [], _∷_, _++_}
+use mathlib.Core.List.{List, [], _++_}
 use mathlib.Core.Path.{_≡_, refl, sym, _∙_}
 use Prim.Native.Nat.{ℕ}
 use Rattle.ir.specs.declared.program.Counts.{Counts}
@@ -9,11 +8,11 @@ use Rattle.ir.specs.declared.frame.Shape.{Shape}
 use Rattle.ir.specs.declared.refusal.Refusal.{Refusal}
 use Rattle.ir.specs.declared.refusal.Outcome.{Outcome}
 use Rattle.ir.specs.declared.refusal.Outcome.the-variants.{Done, Refused}
-use Rattle.ir.specs.Refusals.{Said, Row, gives, saidOf, saidOfOutcome, first, anyHolds}
+use Rattle.ir.specs.Refusals.{Said, Row, gives, saidOf, saidOfOutcome, first}
 use Rattle.ir.proofs.RefusalLaws.{refused-rows, done-rows, first-quiet}
 use Rattle.values.specs.declared.frame.Limits.{Limits}
 use Rattle.evaluation.specs.declared.frame.Lengths.{Lengths}
-use Rattle.evaluation.specs.Evaluation.{memoryRows, formRows, TablesOk, RootsBelow}
+use Rattle.evaluation.specs.Evaluation.{memoryRows, formRows, TablesOk}
 use Rattle.evaluation.proofs.RefuseLaws.{MemoryOk, memory-ok, FormOk, form-ok}
 
 -- the first rows: 8, 9, 2, 1

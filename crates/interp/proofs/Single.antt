@@ -1,10 +1,10 @@
 -- Each evaluator's promise leaves one answer and one memory: first by any rows and values, then by the contracts' own names.
 -- Assumes nothing.
+use Rattle.evaluation.proofs.EvalLaws.{one-word}
 use mathlib.Core.Bool.{Bool, true, false, cond}
-use mathlib.Core.List.{List, [], _∷_}
+use mathlib.Core.List.{List}
 use mathlib.Core.Path.{_≡_, refl, sym, ap, _∙_}
 use Prim.Native.Nat.{ℕ, zero, suc, _+_, _*_, _-_, _<_, _≤_, min}
-use native.Mathlib.Nat.{mod-eq-of-lt}
 use native.Mathlib.Omega.{arith}
 use lib.Dec.{eqb, lit<}
 use lib.ListN.{length, getD, take, drop, length-take, length-drop}
@@ -12,10 +12,7 @@ use lib.Seq.{ext-getD, getD-drop}
 use Rattle.laws.specs.Lists.{block}
 use Rattle.laws.proofs.Blocks.{same-blocks}
 use Rattle.laws.proofs.Cases.{by-test}
-use Rattle.laws.proofs.Tests.{clash}
-use Rattle.field.specs.Base.{p, _≈_}
 use Rattle.extension.specs.Ext.{limb}
-use Rattle.extension.specs.Tower.{goldilocks}
 use Rattle.ir.specs.declared.program.Counts.{Counts}
 use Rattle.ir.specs.declared.frame.Shape.{Shape}
 use Rattle.ir.specs.declared.refusal.Outcome.{Outcome}
@@ -23,14 +20,10 @@ use Rattle.ir.specs.Refusals.{Said, Row, anyHolds}
 use Rattle.ir.proofs.Single.{refusalOf, known, outcome-single}
 use Rattle.evaluation.specs.declared.evals.Evaluated.{Evaluated}
 use Rattle.evaluation.specs.declared.evals.Evaluated.the-variants.{Base, Rejected}
-use Rattle.values.specs.Values.{Value, toExt}
+use Rattle.values.specs.Values.{Value}
 use Rattle.values.specs.Frame.{Lent}
 use Rattle.values.specs.Room.{Kept, RoomHolds}
 use Rattle.evaluation.specs.Evaluation.{saidOfEvaluated, Evaluates, VerifierEvaluates, RowEvaluates, ProverAnswer, VerifierAnswer, RowAnswer}
-
--- words below p that stand for one element are one word
-pub one-word : {x y v : ℕ} → x ≈ v → y ≈ v → x < p → y < p → x ≡ y
-one-word h k a b = sym (mod-eq-of-lt a) ∙ h .same ∙ sym (k .same) ∙ mod-eq-of-lt b
 
 -- a node's four words
 kept-single : (v : Value ℕ (List ℕ)) (a b : List ℕ) → length a ≡ length b → length a ≤ 4 → Kept v a → Kept v b → a ≡ b

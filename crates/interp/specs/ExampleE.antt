@@ -1,21 +1,18 @@
--- Document 01's program E, evaluated: marked sums that the definitions compute.
+-- Document 01's program E: its words, a frame, and that the check and the plain evaluator answer 0, by computation.
 -- Assumes nothing.
-use mathlib.Core.List.{List, [], _∷_, map}
+use mathlib.Core.List.{List, [], _∷_}
 use mathlib.Core.Path.{_≡_, refl}
 use Prim.Native.Nat.{ℕ}
 use lib.ListN.{length, replicate}
-use Rattle.extension.specs.Ext.{sums, minuses, embedded, product}
-use Rattle.extension.specs.Tower.{goldilocks, remainders}
+use Rattle.extension.specs.Tower.{goldilocks}
 use Rattle.laws.specs.Folds.{lowest}
-use Rattle.laws.specs.Maps.{upd}
 use Rattle.ir.specs.declared.program.Counts.{Counts}
 use Rattle.ir.specs.declared.frame.Shape.{Shape}
-use Rattle.ir.specs.Program.{Program, numBase, tooManyNodes, tooManyRoots, shortTables, varOk, leafOk, operationOk, nodeOk, illFormed, checked}
+use Rattle.ir.specs.Program.{Program, tooManyNodes, tooManyRoots, shortTables, varOk, leafOk, operationOk, nodeOk, illFormed, checked}
 use Rattle.ir.specs.Refusals.{Row, first, gives}
 use Rattle.ir.specs.Shape.{overShape}
-use Rattle.values.specs.Values.{Value, leafValue, operationValue, nodeValue, values}
+use Rattle.values.specs.Values.{Value, values}
 use Rattle.values.specs.Frame.{Lent, lent, leaves, cellOutside, outside, proverStrides, frameLimits}
-use Rattle.evaluation.specs.Evals.{baseEvals, extEvals}
 use Rattle.evaluation.specs.Evaluation.{shortFrame, shortMemory, shortEvals, extRoot, proverRows, lengths}
 
 -- the nodes that the builder makes of E: node 0 is the constant 0

@@ -15,10 +15,10 @@ use Rattle.laws.proofs.Cases.{by-test}
 use Rattle.laws.proofs.Parts.{sets-append}
 use Rattle.bytes.specs.Bytes.{leValue}
 use Rattle.blob_rules.specs.declared.blob.BlobCounts.{BlobCounts}
-use Rattle.stored.specs.Form.{words, belowP, size, countsIn, badFraming, tablesIn}
+use Rattle.stored_parts.specs.Form.{words, belowP, size, countsIn, badFraming, tablesIn}
 use Rattle.stored.specs.Answer.{countsOf}
 use Rattle.listing.specs.Listing.{digits, decimal, ending, numbers, line, lines, blobName, nodeName, constName, extName, rootName, endLine, refusedName, listing, blobList, Listable, Puts}
-use Rattle.stored.proofs.FormLaws.{drop-none}
+use Rattle.stored_parts.proofs.WordLaws.{drop-none}
 use Rattle.stored.proofs.RoundLaws.{take-below, trailer-words}
 use Rattle.stored.proofs.AnswerLaws.{framed}
 

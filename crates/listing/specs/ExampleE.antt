@@ -7,7 +7,7 @@ use Prim.Native.Nat.{ℕ}
 use lib.ListN.{length, drop}
 use Rattle.blob_rules.specs.declared.blob.BlobCounts.{BlobCounts}
 use Rattle.listing.specs.Listing.{decimal, listing, blobList}
-use Rattle.stored.specs.Form.{Tables, words, stored, countsIn, badFraming, tablesIn}
+use Rattle.stored_parts.specs.Form.{Tables, words, stored, countsIn, badFraming, tablesIn}
 
 -- E's counts
 pub counts : BlobCounts

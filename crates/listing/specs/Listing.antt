@@ -9,7 +9,7 @@ use lib.Dec.{ltb}
 use lib.ListN.{length, take, drop}
 use lib.Seq.{sets}
 use Rattle.blob_rules.specs.declared.blob.BlobCounts.{BlobCounts}
-use Rattle.stored.specs.Form.{Tables, size, countsIn, badFraming, tablesIn}
+use Rattle.stored_parts.specs.Form.{Tables, size, countsIn, badFraming, tablesIn}
 use Rattle.stored.specs.Answer.{countsOf}
 
 -- the decimal digits of a number that has at most k

@@ -3,15 +3,15 @@ ghost use mathlib.Core.List.{_∷_, [], _++_};
 ghost use mathlib.Core.Path.{_≡_};
 ghost use Prim.Native.Nat.{_+_, _*_, _%_, _≤_};
 ghost use lib.ListN.{length, drop};
-ghost use Rattle.stored.specs.Form.{words, belowP, tablesIn};
+ghost use Rattle.stored_parts.specs.Form.{words, belowP, tablesIn};
 ghost use Rattle.listing.specs.Listing.{decimal, ending, numbers, line, lines, nodeName, constName, extName, rootName, refusedName, listing, blobList, Listable, Puts};
 use blob_rules::blob::BlobCounts;
 use bytes::bytes::u32_at;
 use bytes::bytes::u64_at;
 use field::goldilocks::Fp;
-use stored::form::TRAILER_BYTES;
-use stored::read::bad_framing;
-use stored::read::counts_in;
+use stored_parts::form::TRAILER_BYTES;
+use stored_parts::reading::bad_framing;
+use stored_parts::reading::counts_in;
 
 // Each put writes at a place and answers the place after it.
 fn put_text(text: &[u8], out: &mut [u8], at: usize) -> usize

@@ -18,7 +18,7 @@ use Rattle.blob_rules.specs.Check.{cleared}
 use Rattle.lower_parts.specs.declared.parts.Lowering.{Lowering}
 use Rattle.lower_parts.specs.declared.parts.Lowering.the-variants.{Lowered, Refused}
 use Rattle.liveness.specs.Liveness.{live}
-use Rattle.scan.specs.Scan.{scan, flat}
+use Rattle.scan_parts.specs.Scan.{scan, flat}
 use Rattle.lower_parts.specs.Lower.{blobOf}
 use Rattle.lower_parts.specs.Answer.{Lists, Output, lowering, shortOutput, countsOf, saidOfLowering, emptied, written}
 use Rattle.liveness.specs.LiveLists.{busy, LiveOk, Alive}

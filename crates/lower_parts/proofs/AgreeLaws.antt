@@ -15,12 +15,12 @@ use Rattle.ir.specs.Words.{Node, nodeAt}
 use Rattle.ir.specs.Program.{most, joined}
 use Rattle.ir.specs.WellFormed.{NodeFacts, WellFormed}
 use Rattle.liveness.specs.Liveness.{has, operands, isUniform, Liveness, live, Sound, isRoot}
-use Rattle.scan.specs.Scan.{Scan, encode, written, give, giveAll, claim, scan}
+use Rattle.scan_parts.specs.Scan.{Scan, encode, written, give, giveAll, claim, scan}
 use Rattle.scan.specs.Arrays.{Scannable}
 use Rattle.liveness.specs.LiveLists.{bit, countBelow, listed, OperandsBelow, NodesBelow, RootsBelow, Alive}
 use Rattle.scan.proofs.LiveLaws.{live-sound}
 use Rattle.scan.proofs.WordLaws.{by-leaf}
-use Rattle.scan.proofs.StepLaws.{has-first, has-second}
+use Rattle.scan_parts.proofs.SpellLaws.{has-first, has-second}
 use Rattle.scan.proofs.ReadyLaws.{scan-skips, scan-writes, one-more}
 
 -- two livenesses say the same of n nodes

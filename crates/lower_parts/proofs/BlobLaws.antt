@@ -13,10 +13,11 @@ use Rattle.ir.specs.declared.program.Counts.{Counts}
 use Rattle.ir.specs.Words.{Node, nodeAt}
 use Rattle.ir.specs.WellFormed.{WellFormed}
 use Rattle.liveness.specs.Liveness.{Liveness, live}
-use Rattle.scan.specs.Scan.{Scan, scan, flat}
+use Rattle.scan_parts.specs.Scan.{Scan, scan, flat}
 use Rattle.lower_parts.specs.Lower.{rootWord, Lowered, lowered}
 use Rattle.lower_parts.specs.Answer.{Output, over, written}
-use Rattle.scan.specs.Arrays.{Begins, Scanned, ClassOk}
+use Rattle.scan.specs.Arrays.{Begins, Scanned}
+use Rattle.scan_parts.specs.Pools.{ClassOk}
 use Rattle.liveness.specs.LiveLists.{Tab, listed, Alive}
 use Rattle.lower_parts.specs.Inner.{RootOk, RootsOk, WriteOk, BlobWritten}
 use Rattle.scan.proofs.LiveLaws.{live-sound}

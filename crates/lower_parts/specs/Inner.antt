@@ -9,7 +9,7 @@ use Rattle.ir.specs.declared.program.Counts.{Counts}
 use Rattle.ir.specs.Program.{Program, most, most32}
 use Rattle.ir.specs.Refusals.{gives, refuses}
 use Rattle.ir.specs.WellFormed.{WellFormed}
-use Rattle.scan.specs.Arrays.{ClassOk}
+use Rattle.scan_parts.specs.Pools.{ClassOk}
 use Rattle.liveness.specs.LiveLists.{busy, Alive}
 use Rattle.lower_parts.specs.declared.parts.Lowering.{Lowering}
 use Rattle.lower_parts.specs.Lower.{Lowered, blobOf}

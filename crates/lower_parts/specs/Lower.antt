@@ -10,7 +10,7 @@ use Rattle.ir.specs.Words.{nodeAt}
 use Rattle.ir.specs.Program.{numBase}
 use Rattle.blob_rules.specs.Blob.{Blob}
 use Rattle.liveness.specs.Liveness.{Liveness}
-use Rattle.scan.specs.Scan.{slotWord, scan, flat}
+use Rattle.scan_parts.specs.Scan.{slotWord, scan, flat}
 
 -- what lowering makes: how many nodes, the words of nodes, roots and constants, and the slots of each class
 pub record Lowered : Type 0 where

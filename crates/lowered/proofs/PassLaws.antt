@@ -33,7 +33,7 @@ use Rattle.device.specs.StepRule.{Contents, Slots, step, slotsAfter, rootHeld, 
 use Rattle.blob_rules.specs.Check.{legalRows}
 use Rattle.device.proofs.Theorem.{passes}
 use Rattle.liveness.specs.Liveness.{Liveness, Sound}
-use Rattle.scan.specs.Scan.{scan, flat, slotWord}
+use Rattle.scan_parts.specs.Scan.{scan, flat, slotWord}
 use Rattle.lower_parts.specs.Lower.{Lowered, rootWord, lowered, blobOf}
 use Rattle.scan.proofs.ScanLaws.{root-held}
 use Rattle.lowered.specs.Faithful.{leavesOf}

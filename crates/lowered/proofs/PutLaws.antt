@@ -17,8 +17,8 @@ use Rattle.values.specs.Values.{Value, base, ext, classOf}
 use Rattle.blob_rules.specs.declared.blob.BlobCounts.{BlobCounts}
 use Rattle.blob_rules.specs.Blob.{Instr, instrAt, baseSlots, extSlots, isExt, slotOf, Form, Kind}
 use Rattle.device.specs.StepRule.{Contents, Slots, put, step, slotsAfter, rootHeld}
-use Rattle.scan.specs.Scan.{slotWord, flat}
-use Rattle.scan.proofs.SlotLaws.{upd-same, upd-other}
+use Rattle.scan_parts.specs.Scan.{slotWord, flat}
+use Rattle.scan_parts.proofs.UpdLaws.{upd-same, upd-other}
 use Rattle.scan.proofs.WordLaws.{base-word, ext-word, instr-left, instr-here}
 use Rattle.lowered.proofs.ValueLaws.{slotAt}
 

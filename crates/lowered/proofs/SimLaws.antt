@@ -26,9 +26,10 @@ use Rattle.blob_rules.specs.Blob.{Instr, isExt, Binary, plus, minus, times, bin
 use Rattle.device.specs.StepRule.{Contents, Slots, operand, op₀, op₁, valueOf, step, slotsAfter, rootHeld}
 use Rattle.device.proofs.Theorem.{by-operation}
 use Rattle.liveness.specs.Liveness.{has, operands, isUniform, Liveness, Sound}
-use Rattle.scan.specs.Scan.{Scan, pick, more, slotWord, uniformKind, encode, written, giveAll, claim, scan, flat}
+use Rattle.scan_parts.specs.Scan.{Scan, pick, more, slotWord, uniformKind, encode, written, giveAll, claim, scan, flat}
 use Rattle.lower_parts.specs.Lower.{rootWord}
-use Rattle.scan.proofs.SlotLaws.{upd-case, kept, Good, pick-unheld}
+use Rattle.scan_parts.proofs.UpdLaws.{upd-case}
+use Rattle.scan.proofs.SlotLaws.{kept, Good, pick-unheld}
 use Rattle.scan.proofs.ScanLaws.{cond-case, not-true, given, give-all, given-keeps, freed, taken, Kept, freed-kept, scan-kept, taken-low, next-mono, next-le, operand-held, root-held}
 use Rattle.lowered.specs.Faithful.{leavesOf}
 use Rattle.lowered.proofs.ValueLaws.{LeafFits, slotAt, by-slot, by-name, leaf-written, binary-written, negation-written, embedding-written}

@@ -43,7 +43,7 @@ use Rattle.walk.specs.Walk.{shortFrame, shortWalk, shortEvals, frameLengths, me
 use Rattle.lower_parts.specs.declared.parts.Lowering.{Lowering}
 use Rattle.lower_parts.specs.declared.parts.Lowering.the-variants.{Lowered}
 use Rattle.liveness.specs.Liveness.{Liveness, live}
-use Rattle.scan.specs.Scan.{scan, flat}
+use Rattle.scan_parts.specs.Scan.{scan, flat}
 use Rattle.lower_parts.specs.Lower.{lowered, blobOf}
 use Rattle.lower_parts.specs.Lower as Lower
 use Rattle.lower_parts.specs.Answer.{Lists, Output, lowering, shortLists, shortOutput, lowerRows, lowerSaid, saidOfLowering, countsOf, over, written, LowerAnswer}

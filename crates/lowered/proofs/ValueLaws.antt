@@ -18,7 +18,7 @@ use Rattle.values.specs.Values.{Value, base, ext, classOf, Leaves, toExt, binop
 use Rattle.blob_rules.specs.declared.blob.BlobCounts.{BlobCounts}
 use Rattle.blob_rules.specs.Blob.{Instr, isExt, kindOf, payloadOf, Binary, Form, binary, negation, embedding, tags, kinds}
 use Rattle.device.specs.StepRule.{Contents, Slots, onlyBase, heldBy, operand, baseOperand, extOperand, op₀, op₁, valueOf}
-use Rattle.scan.specs.Scan.{uniformKind}
+use Rattle.scan_parts.specs.Scan.{uniformKind}
 use Rattle.lowered.specs.Faithful.{leavesOf}
 use Rattle.scan.proofs.WordLaws.{kind-of, payload-of, by-leaf}
 

@@ -1,3 +1,4 @@
--- The statement that joins lowering, check, walk and evaluator.
+-- The statements that join lowering, check, walk and evaluator; the marked cases; program E lowered.
 pub mod Faithful
 pub mod Marked
+pub mod ExampleE

@@ -2,5 +2,6 @@
 pub mod Words
 pub mod Hashing
 pub mod Table
+pub mod Tests
 pub mod Puts
 pub mod Model

@@ -1,6 +1,5 @@
 -- Lemmas of liveness and scan.
 pub mod LiveLaws
-pub mod PoolLaws
 pub mod ReadyLaws
 pub mod ScanLaws
 pub mod SlotLaws

@@ -14,7 +14,7 @@ use Rattle.laws.specs.Folds.{anyBelow}
 use Rattle.laws.proofs.Tests.{clash}
 use Rattle.ir.specs.declared.program.Counts.{Counts}
 use Rattle.ir.specs.Words.{nodeAt}
-use Rattle.liveness.specs.Liveness.{has, operands, isUniform, Sound, readsOf, isRoot, lastBy, isUsed, live}
+use Rattle.liveness.specs.Liveness.{isUniform, Sound, readsOf, isRoot, lastBy, isUsed, live}
 use Rattle.scan.proofs.ScanLaws.{cond-case}
 
 -- one that holds is enough

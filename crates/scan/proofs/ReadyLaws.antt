@@ -1,6 +1,6 @@
 -- What holds before and after a node of the scan.
 -- Assumes nothing.
-use mathlib.Core.Bool.{Bool, true, false, cond, not, _&&_, _||_}
+use mathlib.Core.Bool.{true, false, not}
 use mathlib.Core.List.{List, [], _∷_, _++_}
 use mathlib.Core.Logic.{by-cases}
 use mathlib.Core.Path.{_≡_, refl, sym, ap, _∙_}
@@ -8,25 +8,26 @@ use Prim.Native.Nat.{ℕ, zero, suc, _+_, _-_, _*_, _<_, _≤_}
 use native.Mathlib.Omega.{arith}
 use native.Mathlib.Decide.{ℕ-discrete}
 use native.Mathlib.Numerals.{add-one}
-use lib.Dec.{eqb, ltb, leb}
+use lib.Dec.{eqb, ltb}
 use lib.ListN.{length, getD, set, take, drop, length-set, length-append, length-drop}
 use lib.Seq.{sets, sets-eq, take-at, drop-at, drop-drop}
-use borrow.Author.Tests.{eqb-true, eqb-false, eq-eqb, ne-eqb, ltb-true, ltb-false}
+use borrow.Author.Tests.{eq-eqb, ne-eqb, ltb-true, ltb-false}
 use Rattle.laws.specs.Maps.{upd}
 use Rattle.laws.proofs.Cases.{by-test}
 use Rattle.laws.proofs.Tests.{and-left}
-use Rattle.ir.specs.Words.{Node, nodeAt}
+use Rattle.ir.specs.Words.{nodeAt}
 use Rattle.blob_rules.specs.Blob.{Instr}
-use Rattle.liveness.specs.Liveness.{has, operands, isUniform, Liveness}
-use Rattle.scan.specs.Scan.{Scan, pick, left, more, slotWord, encode, written, give, giveAll, claim, scan, flat}
-use Rattle.scan.specs.Arrays.{stack, slotsIn, Stands, Takes, ClassOk, TakeOk, EncOk, GiveOk, WordsOk, Spelt, ReleaseOk, Released, ClaimOk, Claimed, Scannable, Wrote, Ready, Advanced, Begins, Scanned}
-use Rattle.liveness.specs.LiveLists.{Tab, listed, busy}
-use Rattle.scan.proofs.SlotLaws.{upd-same, upd-other, upd-case, Good}
+use Rattle.liveness.specs.Liveness.{has, operands, Liveness}
+use Rattle.scan_parts.specs.Scan.{Scan, pick, left, more, slotWord, encode, written, give, claim, scan, flat}
+use Rattle.scan_parts.specs.Pools.{stack, slotsIn, Stands, ClassOk, EncOk, GiveOk, WordsOk, Spelt}
+use Rattle.scan.specs.Arrays.{ReleaseOk, Released, ClaimOk, Claimed, Wrote, Ready, Advanced, Begins, Scanned}
+use Rattle.liveness.specs.LiveLists.{listed, busy}
+use Rattle.scan_parts.proofs.UpdLaws.{upd-case}
 use Rattle.scan.proofs.ScanLaws.{freed, taken, given-keeps, next-le, scan-kept, taken-low}
 use Rattle.scan.proofs.WordLaws.{flat-length}
-use Rattle.scan.proofs.PoolLaws.{busy-set, tab-set, tops-le}
+use Rattle.scan_parts.proofs.PoolLaws.{busy-set, tab-set, tops-le}
 use Rattle.liveness.proofs.MarkLaws.{idle}
-use Rattle.scan.proofs.StepLaws.{has-first, has-second}
+use Rattle.scan_parts.proofs.SpellLaws.{has-first, has-second}
 
 -- ---- what a node's words depend on
 

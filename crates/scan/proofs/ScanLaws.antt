@@ -1,8 +1,8 @@
 -- What the scan keeps: who holds which slot, and that each node that is still to be read has one.
 -- Assumes nothing.
 use mathlib.Core.Bool.{Bool, true, false, cond, not, _&&_}
-use mathlib.Core.List.{List, [], _∷_, _++_}
-use mathlib.Core.Logic.{_≢_, by-cases}
+use mathlib.Core.List.{List, [], _∷_}
+use mathlib.Core.Logic.{by-cases}
 use mathlib.Core.Path.{_≡_, refl, sym, ap, _∙_}
 use Prim.Native.Nat.{ℕ, zero, suc, _-_, _<_, _≤_}
 use native.Mathlib.Decide.{ℕ-discrete}
@@ -11,13 +11,13 @@ use lib.Dec.{eqb}
 use lib.ListN.{getD}
 use borrow.Author.Tests.{eqb-true, eqb-false}
 use Rattle.laws.specs.Maps.{upd}
-use Rattle.laws.proofs.Tests.{clash, and-left, and-right}
+use Rattle.laws.proofs.Tests.{clash}
 use Rattle.ir.specs.declared.program.Counts.{Counts}
-use Rattle.ir.specs.Words.{Node, nodeAt}
-use Rattle.blob_rules.specs.Blob.{Instr}
+use Rattle.ir.specs.Words.{nodeAt}
 use Rattle.liveness.specs.Liveness.{has, operands, Liveness, Sound}
-use Rattle.scan.specs.Scan.{Scan, pick, left, more, written, give, giveAll, claim, scan}
-use Rattle.scan.proofs.SlotLaws.{upd-same, upd-case, Good, give-good, claim-good, pick-low}
+use Rattle.scan_parts.specs.Scan.{Scan, pick, more, give, giveAll, claim, scan}
+use Rattle.scan_parts.proofs.UpdLaws.{upd-same, upd-case}
+use Rattle.scan.proofs.SlotLaws.{Good, give-good, claim-good, pick-low}
 
 -- ---- tests
 

@@ -1,28 +1,15 @@
 -- Who holds which slot: no two nodes of a class hold the same slot, the free slots are held by nobody and are free once, and all
 -- are below the class's count. A node that gives its slot back and one that takes a slot keep this.
 -- Assumes nothing.
-use mathlib.Core.Bool.{cond}
+use Rattle.scan_parts.proofs.UpdLaws.{upd-same, upd-other, upd-case}
 use mathlib.Core.List.{List, [], _∷_}
 use mathlib.Core.Logic.{_≢_, by-cases}
-use mathlib.Core.Path.{_≡_, refl, sym, ap, _∙_, subst}
-use Prim.Native.Nat.{ℕ, zero, suc, _<_, _≤_}
+use mathlib.Core.Path.{_≡_, refl, sym, ap, _∙_}
+use Prim.Native.Nat.{ℕ, suc, _<_, _≤_}
 use native.Mathlib.Decide.{ℕ-discrete}
 use native.Mathlib.Omega.{arith}
 use Rattle.laws.specs.Maps.{upd}
-use Rattle.laws.proofs.Maps.{upd-here}
-use Rattle.laws.proofs.Maps as Maps
-use Rattle.scan.specs.Scan.{pick, left, more}
-
--- ---- maps changed at one place
-
-pub upd-same : {A : Type 0} (f : ℕ → A) (i : ℕ) (v : A) (j : ℕ) → j ≡ i → upd f i v j ≡ v
-upd-same f i v j e = rw e (upd-here f i v)
-
-pub upd-other : {A : Type 0} (f : ℕ → A) (i : ℕ) (v : A) (j : ℕ) → j ≢ i → upd f i v j ≡ f j
-upd-other f i v j n = Maps.upd-other f i v j n
-
-pub upd-case : {A : Type 0} (P : A → Type 0) (f : ℕ → A) (i : ℕ) (v : A) (j : ℕ) → (j ≡ i → P v) → (j ≢ i → P (f j)) → P (upd f i v j)
-upd-case P f i v j a b = by-cases (ℕ-discrete j i) (λ q. rw (upd-same f i v j q) (a q)) λ q. rw (upd-other f i v j q) (b q)
+use Rattle.scan_parts.specs.Scan.{pick, left, more}
 
 -- a slot that is still held was held before
 pub kept : (f : ℕ → ℕ) (i j t : ℕ) → upd f i 0 j ≡ suc t → f j ≡ suc t

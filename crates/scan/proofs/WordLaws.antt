@@ -1,15 +1,15 @@
 -- The words of a blob's nodes: what a slot, an operand and a list of nodes read as.
 -- Assumes nothing.
-use mathlib.Core.Bool.{Bool, true, false, cond, not}
+use mathlib.Core.Bool.{true, false}
 use mathlib.Core.List.{List, [], _∷_, _++_}
-use mathlib.Core.Path.{_≡_, refl, sym, ap, _∙_}
-use Prim.Native.Nat.{ℕ, zero, suc, _+_, _*_, _/_, _%_, _<_, _≤_}
+use mathlib.Core.Path.{_≡_, refl, sym, _∙_}
+use Prim.Native.Nat.{ℕ, zero, suc, _+_, _*_, _<_}
 use native.Mathlib.Omega.{arith}
 use lib.Dec.{leb}
-use lib.ListN.{length, getD}
+use lib.ListN.{length}
 use borrow.Author.Tests.{le-leb, lt-leb}
 use Rattle.blob_rules.specs.Blob.{Instr, instrAt, isExt, slotOf, kindOf, payloadOf}
-use Rattle.scan.specs.Scan.{slotWord, flat}
+use Rattle.scan_parts.specs.Scan.{slotWord, flat}
 
 -- ---- slots and operands
 

@@ -1,3 +1,2 @@
--- The scan of lowering, and how lent lists stand for it.
+-- How lent lists stand for the scan node by node.
 pub mod Arrays
-pub mod Scan

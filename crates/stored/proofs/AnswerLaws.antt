@@ -1,5 +1,6 @@
 -- What writing and reading answer, test by test.
 -- Assumes nothing.
+use Rattle.stored_parts.proofs.WordLaws.{framing}
 use mathlib.Core.Bool.{Bool, true, false, not, _||_}
 use mathlib.Core.List.{List}
 use mathlib.Core.Path.{_≡_, refl, sym, ap, _∙_}
@@ -17,13 +18,10 @@ use Rattle.ir.specs.Refusals.{Said, saidOf}
 use Rattle.blob_rules.specs.declared.blob.BlobCounts.{BlobCounts}
 use Rattle.stored.specs.declared.write.Stored.the-variants as Stored
 use Rattle.stored.specs.declared.read.ReadStored.the-variants as ReadStored
-use Rattle.stored.specs.Form.{Tables, spread, named, body, distance, size, stored, trailerWords, misframed, trailerWord, countsIn, badFraming, tablesIn}
-use Rattle.stored.specs.Answer.{shortTables, Long, noRoom, writeSaid, WriteAnswer, put, readSaid, ReadAnswer}
+use Rattle.stored_parts.specs.Form.{Tables, spread, named, body, distance, size, stored, trailerWords, misframed, trailerWord, countsIn, badFraming, tablesIn}
+use Rattle.stored_parts.specs.Rooms.{shortTables, Long, noRoom}
+use Rattle.stored.specs.Answer.{writeSaid, WriteAnswer, put, readSaid, ReadAnswer}
 use Rattle.stored.proofs.FormLaws.{runs, body-bytes}
-
--- the framing's test, from its parts
-pub framing : (file : List ℕ) {r : Bool} {words told : ℕ} {c : BlobCounts} → 32 ≤ length file → c ≡ countsIn file → words ≡ distance c → told ≡ trailerWord file 7 → r ≡ misframed words told (length file) → r ≡ badFraming file
-framing file long a b d e = e ∙ rw (b, a, d, le-ltb (length file) 32 long)
 
 -- tables that are long enough
 pub long : (c : BlobCounts) (t : Tables) → shortTables c t ≡ false → Long c t

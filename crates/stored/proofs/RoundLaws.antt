@@ -11,8 +11,8 @@ use Rattle.laws.proofs.Parts.{sets-here}
 use Rattle.bytes.specs.Bytes.{leValue, leBytes}
 use Rattle.bytes.proofs.BytesLaws.{value-bytes, bytes-value}
 use Rattle.field.specs.Base.{p}
-use Rattle.stored.specs.Form.{spread, words, belowP, trailerWord}
-use Rattle.stored.proofs.FormLaws.{bytes-long, drop-none, below-at}
+use Rattle.stored_parts.specs.Form.{spread, words, belowP, trailerWord}
+use Rattle.stored_parts.proofs.WordLaws.{bytes-long, drop-none, below-at}
 
 -- each word is below m
 pub record Below (m : ℕ) (ws : List ℕ) : Type 0 where

@@ -13,7 +13,7 @@ use Rattle.stored.specs.declared.write.Stored.{Stored}
 use Rattle.stored.specs.declared.write.Stored.the-variants as Stored
 use Rattle.stored.specs.declared.read.ReadStored.{ReadStored}
 use Rattle.stored.specs.declared.read.ReadStored.the-variants as ReadStored
-use Rattle.stored.specs.Form.{Tables}
+use Rattle.stored_parts.specs.Form.{Tables}
 use Rattle.stored.specs.Answer.{writeRows, saidOfStored, WriteAnswer, readRows, saidOfRead, ReadAnswer}
 use Rattle.stored.proofs.AnswerLaws.{countsSaid}
 

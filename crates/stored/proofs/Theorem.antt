@@ -15,10 +15,12 @@ use Rattle.stored.specs.declared.write.Stored.{Stored}
 use Rattle.stored.specs.declared.write.Stored.the-variants as Stored
 use Rattle.stored.specs.declared.read.ReadStored.{ReadStored}
 use Rattle.stored.specs.declared.read.ReadStored.the-variants as ReadStored
-use Rattle.stored.specs.Form.{Tables, spread, words, belowP, distance, size, named, body, trailerWords, stored, trailerWord, countsIn, badFraming, tablesIn}
-use Rattle.stored.specs.Answer.{Long, WriteAnswer, put, ReadAnswer}
+use Rattle.stored_parts.specs.Form.{Tables, spread, words, belowP, distance, size, named, body, trailerWords, stored, trailerWord, countsIn, badFraming, tablesIn}
+use Rattle.stored_parts.specs.Rooms.{Long}
+use Rattle.stored.specs.Answer.{WriteAnswer, put, ReadAnswer}
 use Rattle.stored.proofs.AnswerLaws.{not-short, has-room, write-gives, wrote-ok, Framed, well-framed, read-ok, read-done}
-use Rattle.stored.proofs.FormLaws.{put-long, drop-none, words-long, nodes-bytes, two-bytes, three-bytes, body-bytes}
+use Rattle.stored.proofs.FormLaws.{put-long, nodes-bytes, two-bytes, three-bytes, body-bytes}
+use Rattle.stored_parts.proofs.WordLaws.{drop-none, words-long}
 use Rattle.stored.proofs.Single.{write-stored-single, read-stored-single}
 use Rattle.stored.proofs.RoundLaws.{Below, below-take, below-drop, below-p, below-kept, eight-fit, value-below, from-first, from-third, from-fourth, front, front-below, words-part, spread-words, trailer-at, trailer-words}
 

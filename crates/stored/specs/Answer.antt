@@ -1,10 +1,11 @@
 -- What writing and reading form A say, and what they write.
 -- Assumes nothing.
-use mathlib.Core.Bool.{Bool, cond, _||_}
+use Rattle.stored_parts.specs.Rooms.{shortTables, noRoom}
+use mathlib.Core.Bool.{cond}
 use mathlib.Core.List.{List, [], _∷_}
 use mathlib.Core.Path.{_≡_}
-use Prim.Native.Nat.{ℕ, _+_, _*_, _≤_}
-use lib.Dec.{eqb, ltb}
+use Prim.Native.Nat.{ℕ}
+use lib.Dec.{eqb}
 use lib.ListN.{length}
 use lib.Seq.{sets}
 use Rattle.ir.specs.Refusals.{Said, Row, row, first, gives, saidOf}
@@ -13,29 +14,9 @@ use Rattle.stored.specs.declared.write.Stored.{Stored}
 use Rattle.stored.specs.declared.write.Stored.the-variants as Stored
 use Rattle.stored.specs.declared.read.ReadStored.{ReadStored}
 use Rattle.stored.specs.declared.read.ReadStored.the-variants as ReadStored
-use Rattle.stored.specs.Form.{Tables, distance, size, stored, countsIn, badFraming, tablesIn}
-
--- a table is shorter than the counts say
-abbrev pub short : BlobCounts → ℕ → ℕ → ℕ → ℕ → Bool
-short c nodes bases exts roots =
-    ltb nodes (4 * c .nodes) || ltb bases (c .bases) || ltb exts (3 * c .exts) || ltb roots (c .roots)
-
--- a table that is shorter than its count: 1 in writing, 10 in reading
-abbrev pub shortTables : BlobCounts → Tables → Bool
-shortTables c t = short c (length (t .nodes)) (length (t .bases)) (length (t .exts)) (length (t .roots))
-
--- and none is
-pub record Long (c : BlobCounts) (t : Tables) : Type 0 where
-  pub nodes-long : 4 * c .nodes ≤ length (t .nodes)
-  pub bases-long : c .bases ≤ length (t .bases)
-  pub exts-long : 3 * c .exts ≤ length (t .exts)
-  pub roots-long : c .roots ≤ length (t .roots)
+use Rattle.stored_parts.specs.Form.{Tables, distance, size, stored, countsIn, badFraming, tablesIn}
 
 -- ---- writing
-
--- 10: the body's words pass 32 bits, or the file has no room
-abbrev pub noRoom : ℕ → ℕ → Bool
-noRoom body room = ltb 4294967295 body || ltb room (4 * body + 32)
 
 -- the refusals in order: 1, then 10
 abbrev pub writeRows : BlobCounts → Tables → List ℕ → List Row

@@ -1,3 +1,2 @@
--- Stored form A.
+-- What writing and reading form A answer.
 pub mod Answer
-pub mod Form

@@ -17,7 +17,7 @@ use Rattle.ir.specs.declared.refusal.Outcome.{Outcome}
 use Rattle.ir.specs.Refusals.{inOrder, anyHolds}
 use Rattle.ir.proofs.Single.{outcome-single}
 use Rattle.values.specs.Frame.{Lent}
-use Rattle.interp.proofs.Single.{one-word}
+use Rattle.evaluation.proofs.EvalLaws.{one-word}
 use Rattle.blob_rules.specs.declared.blob.BlobCounts.{BlobCounts}
 use Rattle.blob_rules.specs.Blob.{Blob, baseSlots, extSlots}
 use Rattle.device.specs.StepRule.{Slots}

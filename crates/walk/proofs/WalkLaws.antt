@@ -33,7 +33,7 @@ use Rattle.ir.proofs.ProgramLaws.{within}
 use Rattle.ir.proofs.RefusalLaws.{not-found, numbered, done-rows, loud-rows, first-loud, first-quiet, first-none}
 use Rattle.values.specs.Values.{Value}
 use Rattle.values.specs.Frame.{Lent}
-use Rattle.interp.proofs.AnswerLaws.{any-append}
+use Rattle.evaluation.proofs.RefuseLaws.{any-append}
 use Rattle.evaluation.proofs.RefuseLaws.{cells-small}
 use Rattle.blob_rules.specs.declared.blob.BlobCounts.{BlobCounts}
 use Rattle.blob_rules.specs.Blob.{Blob, numBase, baseSlots, extSlots, tags, kinds, instrAt, isExt, slotOf}

@@ -1,42 +1,16 @@
 -- `is_foreign` meets its contract.
 -- Assumes nothing.
 use Rattle.builder.specs.Answers.{strangerB}
-use borrow.Author.Tests.{le-leb, lt-leb}
 use borrow.Author.Needs.{needs}
 use Rattle.builder.proofs.ir_builder.is_foreign.Statement.{statement}
 use Rattle.builder.proofs.ir_builder.is_foreign.Tie as tie
 
-wide-requires : tie.Need-wide-requires
-wide-requires c κs = search needs
+is-no-node-requires : tie.Need-is-no-node-requires
+is-no-node-requires c κs = search needs
 
 returns : tie.Need-returns
 unfolding strangerB
-returns c = let e = c .before .wide .ensures in let t = c .if1 .taken in rw (le-leb _ _ (rw e at t))
-
-mul-result : tie.Need-mul-result
-mul-result c = search needs
-
-add-result : tie.Need-add-result
-add-result c = search needs
-
-mul-result-2 : tie.Need-mul-result-2
-mul-result-2 c = search needs
-
-shared-slice-read-result : tie.Need-shared-slice-read-result
-shared-slice-read-result c = search needs
-
-returns-2 : tie.Need-returns-2
-unfolding strangerB
-returns-2 c = let e = c .before .before .before .wide .ensures in let t = c .before .before .if1 .left in rw (e, lt-leb _ _ (rw e at t))
+returns c = c .is-no-node .ensures
 
 pub is-foreign-spec : {M : Type 1} → statement M
-is-foreign-spec =
-    tie.close
-    (tie.spec
-    wide-requires
-    returns
-    mul-result
-    add-result
-    mul-result-2
-    shared-slice-read-result
-    returns-2)
+is-foreign-spec = tie.close (tie.spec is-no-node-requires returns)

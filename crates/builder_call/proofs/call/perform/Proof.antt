@@ -1,18 +1,6 @@
 use borrow.Author.Needs.{needs}
 use Rattle.builder_call.proofs.call.perform.Statement.{statement}
 use Rattle.builder_call.proofs.call.perform.Tie as tie
-use Rattle.builder_call.proofs.call.perform.Reads as reads
-use Rattle.builder_call.proofs.call.perform.Lts as lts
-use Rattle.builder.proofs.ir_builder.IrBuilder.add.Reads as add-reads
-use Rattle.builder.proofs.ir_builder.IrBuilder.alpha_power.Reads as alpha-power-reads
-use Rattle.builder.proofs.ir_builder.IrBuilder.aux.Reads as aux-reads
-use Rattle.builder.proofs.ir_builder.IrBuilder.challenge.Reads as challenge-reads
-use Rattle.builder.proofs.ir_builder.IrBuilder.embed.Reads as embed-reads
-use Rattle.builder.proofs.ir_builder.IrBuilder.main.Reads as main-reads
-use Rattle.builder.proofs.ir_builder.IrBuilder.mul.Reads as mul-reads
-use Rattle.builder.proofs.ir_builder.IrBuilder.neg.Reads as neg-reads
-use Rattle.builder.proofs.ir_builder.IrBuilder.sub.Reads as sub-reads
-use Rattle.builder.proofs.ir_builder.IrBuilder.table_offset.Reads as table-offset-reads
 
 -- src/call.rt:28:22
 enum-known-c : tie.Need-enum-known-c

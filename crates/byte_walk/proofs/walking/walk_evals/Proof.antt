@@ -1,7 +1,7 @@
 use Rattle.byte_walk.proofs.WalkLaws.{packs, walked-in}
 use Rattle.byte_words.proofs.WordLaws.{front-long}
 use Rattle.byte_words.specs.Words.{wordsIn}
-use Rattle.stored.proofs.FormLaws.{sets-long}
+use Rattle.stored_parts.proofs.WordLaws.{sets-long}
 use borrow.Author.Needs.{needs}
 use Rattle.byte_walk.proofs.walking.walk_evals.Statement.{statement}
 use Rattle.byte_walk.proofs.walking.walk_evals.Tie as tie

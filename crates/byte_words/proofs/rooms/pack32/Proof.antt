@@ -1,6 +1,6 @@
 use Rattle.byte_words.proofs.WordLaws.{pack-more, pack-all}
-use Rattle.stored.proofs.FormLaws.{sets-long}
-use Rattle.stored.specs.Form.{spread}
+use Rattle.stored_parts.proofs.WordLaws.{sets-long}
+use Rattle.stored_parts.specs.Form.{spread}
 use borrow.Author.Needs.{needs}
 use native.Mathlib.Omega.{arith}
 use lib.ListN.{length, take}

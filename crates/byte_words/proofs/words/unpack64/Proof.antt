@@ -1,6 +1,6 @@
 use Rattle.byte_words.proofs.WordLaws.{unpack-more}
-use Rattle.stored.proofs.FormLaws.{sets-long}
-use Rattle.stored.specs.Form.{words}
+use Rattle.stored_parts.proofs.WordLaws.{sets-long}
+use Rattle.stored_parts.specs.Form.{words}
 use borrow.Author.Needs.{needs}
 use native.Mathlib.Omega.{arith}
 use lib.ListN.{length}

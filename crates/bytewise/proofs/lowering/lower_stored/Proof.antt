@@ -2,7 +2,7 @@ use Rattle.bytewise.specs.Lowering.{wordsOf}
 use Rattle.bytewise.proofs.AnswerLaws.{roomy-early, still-roomy, lower-early, lower-done}
 use Rattle.byte_words.proofs.ReadingLaws.{as-long}
 use Rattle.byte_words.proofs.WordLaws.{front-long}
-use Rattle.stored.specs.Form.{Tables}
+use Rattle.stored_parts.specs.Form.{Tables}
 use native.Mathlib.Omega.{arith}
 use mathlib.Core.Path.{sym, _∙_}
 use borrow.Author.Needs.{needs}

@@ -5,7 +5,6 @@ use Rattle.evaluation.specs.Evaluation.{shortEvals}
 use Rattle.ir.proofs.ProgramLaws.{few-roots}
 use borrow.Author.Tests.{lt-ltb, le-ltb}
 use native.Mathlib.Omega.{arith}
-use mathlib.Core.Path.{sym, _∙_}
 use Rattle.evaluation.proofs.refuse.short_evals.Statement.{statement}
 use Rattle.evaluation.proofs.refuse.short_evals.Tie as tie
 

@@ -3,9 +3,8 @@
 use Rattle.interp.proofs.OutcomeLaws.{form-refused, form-passed, form-on}
 use Rattle.evaluation.specs.Evaluation.{extRoot}
 use Rattle.values.specs.Frame.{frameLimits}
-use Rattle.ir.specs.Refusals.{Row, rowAt}
-use mathlib.Core.Path.{_≡_, refl}
-use mathlib.Core.List.{List, [], _∷_}
+use Rattle.ir.specs.Refusals.{rowAt}
+use mathlib.Core.List.{[], _∷_}
 use borrow.Author.Needs.{needs}
 use Rattle.interp.proofs.interp.prover_rest.Statement.{statement}
 use Rattle.interp.proofs.interp.prover_rest.Tie as tie

@@ -5,7 +5,7 @@ use Rattle.evaluation.specs.Evaluation.{askedRow}
 use Rattle.values.specs.Frame.{rowLimits}
 use borrow.Author.Tests.{le-leb, lt-leb}
 use native.Mathlib.Omega.{arith}
-use mathlib.Core.List.{List, [], _∷_}
+use mathlib.Core.List.{[], _∷_}
 use borrow.Author.Needs.{needs}
 use Rattle.interp.proofs.interp.row_rest.Statement.{statement}
 use Rattle.interp.proofs.interp.row_rest.Tie as tie

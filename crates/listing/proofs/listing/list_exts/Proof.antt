@@ -5,7 +5,7 @@ use mathlib.Core.Path.{_≡_, refl, _∙_}
 use lib.ListN.{length, drop}
 use native.Mathlib.Omega.{arith}
 use borrow.Author.Needs.{needs}
-use Rattle.stored.specs.Form.{words, belowP}
+use Rattle.stored_parts.specs.Form.{words, belowP}
 use Rattle.listing.specs.Listing.{lines, extName, Puts}
 use Rattle.listing.proofs.ListLaws.{puts-none, line-limbs, line-step, puts-within, lines-done}
 use Rattle.listing.proofs.listing.list_exts.Statement.{statement}

@@ -4,11 +4,11 @@ use Rattle.field.proofs.Laws.{least-exact}
 use Rattle.field.specs.Base.{p}
 use Prim.Native.Nat.{ℕ, _%_, _≤_, _-_, _*_}
 use mathlib.Core.Path.{_∙_, ap, _≡_, refl}
-use Rattle.stored.proofs.FormLaws.{constants-next}
+use Rattle.stored_parts.proofs.WordLaws.{constants-next}
 use lib.ListN.{length, drop}
 use native.Mathlib.Omega.{arith}
 use borrow.Author.Needs.{needs}
-use Rattle.stored.specs.Form.{words, belowP}
+use Rattle.stored_parts.specs.Form.{words, belowP}
 use Rattle.listing.specs.Listing.{numbers, Puts}
 use Rattle.listing.proofs.ListLaws.{puts-none, number-step, numbers-done}
 use Rattle.listing.proofs.listing.put_limbs.Statement.{statement}

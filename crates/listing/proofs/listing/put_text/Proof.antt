@@ -6,7 +6,7 @@ use lib.Seq.{sets}
 use lib.ListN.{length, take}
 use native.Mathlib.Omega.{arith}
 use borrow.Author.Needs.{needs}
-use Rattle.stored.proofs.FormLaws.{sets-long}
+use Rattle.stored_parts.proofs.WordLaws.{sets-long}
 use Rattle.listing.proofs.ListLaws.{text-more, text-whole}
 use Rattle.listing.proofs.listing.put_text.Statement.{statement}
 use Rattle.listing.proofs.listing.put_text.Tie as tie

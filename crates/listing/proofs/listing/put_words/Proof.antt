@@ -1,12 +1,12 @@
 -- `put_words` meets its contract.
 -- Assumes nothing.
 use mathlib.Core.Path.{_∙_, _≡_, refl}
-use Rattle.stored.proofs.FormLaws.{words-next}
+use Rattle.stored_parts.proofs.WordLaws.{words-next}
 use Prim.Native.Nat.{_≤_, _-_, _*_}
 use lib.ListN.{length, drop}
 use native.Mathlib.Omega.{arith}
 use borrow.Author.Needs.{needs}
-use Rattle.stored.specs.Form.{words}
+use Rattle.stored_parts.specs.Form.{words}
 use Rattle.listing.specs.Listing.{numbers, Puts}
 use Rattle.listing.proofs.ListLaws.{puts-none, number-step, numbers-done}
 use Rattle.listing.proofs.listing.put_words.Statement.{statement}

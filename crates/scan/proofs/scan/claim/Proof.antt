@@ -2,10 +2,6 @@ use mathlib.Core.Path.{refl}
 use borrow.Author.Needs.{needs}
 use Rattle.scan.proofs.scan.claim.Statement.{statement}
 use Rattle.scan.proofs.scan.claim.Tie as tie
-use Rattle.scan.proofs.scan.claim.Reads as reads
-use Rattle.scan.proofs.scan.claim.Lts as lts
-use Rattle.scan.proofs.scan.put.Reads as put-reads
-use Rattle.scan.proofs.scan.take.Reads as take-reads
 
 -- src/scan.rt:244:9
 take-requires : tie.Need-take-requires

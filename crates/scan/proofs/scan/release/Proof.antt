@@ -1,11 +1,9 @@
-use Rattle.scan.proofs.StepLaws.{has-first, has-second, give-ok-after, released-none, released-one, released-two}
+use Rattle.scan_parts.proofs.SpellLaws.{has-first, has-second}
+use Rattle.scan.proofs.StepLaws.{give-ok-after, released-none, released-one, released-two}
 use mathlib.Core.Path.{refl, _∙_}
 use borrow.Author.Needs.{needs}
 use Rattle.scan.proofs.scan.release.Statement.{statement}
 use Rattle.scan.proofs.scan.release.Tie as tie
-use Rattle.scan.proofs.scan.release.Reads as reads
-use Rattle.scan.proofs.scan.release.Lts as lts
-use Rattle.scan.proofs.scan.give_back.Reads as give-back-reads
 
 -- src/scan.rt:177:17
 mul-first : tie.Need-mul-first

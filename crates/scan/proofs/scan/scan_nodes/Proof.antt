@@ -7,9 +7,6 @@ use lib.ListN.{length}
 use Prim.Native.Nat.{_≤_, _-_}
 use Rattle.scan.proofs.scan.scan_nodes.Statement.{statement}
 use Rattle.scan.proofs.scan.scan_nodes.Tie as tie
-use Rattle.scan.proofs.scan.scan_nodes.Reads as reads
-use Rattle.scan.proofs.scan.scan_nodes.Lts as lts
-use Rattle.scan.proofs.scan.step.Reads as step-reads
 
 abbrev Inv-loop : tie.InvT-loop
 Inv-loop nodes emitted last-use is-root slot-of₀ free₀ out₀ n place₀ i₀ slot-of free out place i = (i ≤ n) × (length slot-of ≡ n) × Scanned i nodes emitted last-use is-root out₀ slot-of free (place .pools .tops) (place .pools .nexts) out (place .count)

@@ -3,11 +3,6 @@ use native.Mathlib.Omega.{arith}
 use borrow.Author.Needs.{needs}
 use Rattle.scan.proofs.scan.step.Statement.{statement}
 use Rattle.scan.proofs.scan.step.Tie as tie
-use Rattle.scan.proofs.scan.step.Reads as reads
-use Rattle.scan.proofs.scan.step.Lts as lts
-use Rattle.scan.proofs.scan.claim.Reads as claim-reads
-use Rattle.scan.proofs.scan.release.Reads as release-reads
-use Rattle.scan.proofs.scan.spell.Reads as spell-reads
 
 -- src/scan.rt:270:8
 mul-if1 : tie.Need-mul-if1

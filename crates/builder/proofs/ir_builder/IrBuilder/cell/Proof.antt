@@ -3,7 +3,8 @@
 use mathlib.Core.Path.{refl, sym, _∙_}
 use Rattle.builder.proofs.AnswerLaws.{long-nodes}
 use Rattle.builder.specs.Calls.{cellOf}
-use borrow.Author.Tests.{lt-ltb, le-ltb}
+use native.Mathlib.Omega.{arith}
+use borrow.Author.Tests.{ltb-false}
 use borrow.Author.Needs.{needs}
 use Rattle.builder.proofs.ir_builder.IrBuilder.cell.Statement.{statement}
 use Rattle.builder.proofs.ir_builder.IrBuilder.cell.Tie as tie
@@ -17,10 +18,13 @@ returns c = rw (sym (c .before .short-nodes .ensures) ∙ c .if1 .taken) (record
 
 returns-2 : tie.Need-returns-2
 unfolding cellOf
-returns-2 c = rw (sym (c .before .before .short-nodes .ensures) ∙ c .before .if1 .left, lt-ltb _ _ (c .if2 .taken)) (record { said = refl; builder = refl; nodes = refl; places = refl })
+returns-2 c = rw (sym (c .before .before .before .short-nodes .ensures) ∙ c .before .before .if1 .left, sym (c .before .past-index .ensures) ∙ c .if2 .taken) (record { said = refl; builder = refl; nodes = refl; places = refl })
+
+past-index-requires : tie.Need-past-index-requires
+past-index-requires c κs = search needs
 
 cast-t15 : tie.Need-cast-t15
-cast-t15 c = search needs
+cast-t15 c = omega (arith, ltb-false 65535 (c .before .before .before .before .before .before .args .col) (sym (c .before .past-index .ensures) ∙ c .if2 .left))
 
 pack-var-requires : tie.Need-pack-var-requires
 pack-var-requires c κs = search needs
@@ -29,7 +33,7 @@ cell-dim-requires : tie.Need-cell-dim-requires
 cell-dim-requires c κs = search needs
 
 place-requires : tie.Need-place-requires
-place-requires c κs = long-nodes _ _ _ _ (c .before .before .before .before .before .before .short-nodes .ensures) (c .before .before .before .before .before .if1 .left)
+place-requires c κs = long-nodes _ _ _ _ (c .before .before .before .before .before .before .before .short-nodes .ensures) (c .before .before .before .before .before .before .if1 .left)
 
 same-length : tie.Need-same-length
 same-length c = search needs
@@ -39,7 +43,7 @@ same-length-2 c = search needs
 
 returns-3 : tie.Need-returns-3
 unfolding cellOf
-returns-3 c = let h = c .before .before .before .before .place .ensures in rw (sym (c .before .before .before .before .before .before .before .before .before .before .before .short-nodes .ensures) ∙ c .before .before .before .before .before .before .before .before .before .before .if1 .left, le-ltb _ _ (c .before .before .before .before .before .before .before .before .before .if2 .left)) (rw (c .before .before .before .before .before .before .before .before .pack-var .ensures, c .before .before .before .before .before .before .before .cell-dim .ensures) at h)
+returns-3 c = let h = c .before .before .before .before .place .ensures in rw (sym (c .before .before .before .before .before .before .before .before .before .before .before .before .short-nodes .ensures) ∙ c .before .before .before .before .before .before .before .before .before .before .before .if1 .left, sym (c .before .before .before .before .before .before .before .before .before .before .past-index .ensures) ∙ c .before .before .before .before .before .before .before .before .before .if2 .left) (rw (c .before .before .before .before .before .before .before .before .pack-var .ensures, c .before .before .before .before .before .before .before .cell-dim .ensures) at h)
 
 pub cell-spec : {M : Type 1} → statement M
-cell-spec = tie.close (tie.spec short-nodes-requires returns returns-2 cast-t15 pack-var-requires cell-dim-requires place-requires same-length same-length-2 returns-3)
+cell-spec = tie.close (tie.spec short-nodes-requires returns past-index-requires returns-2 cast-t15 pack-var-requires cell-dim-requires place-requires same-length same-length-2 returns-3)

@@ -1,0 +1,2 @@
+-- Laws of words of bytes, trailer and framing.
+pub mod WordLaws
