@@ -1,24 +1,14 @@
--- The call that lowers: a refusal writes no value, and its promise leaves one answer and one memory.
+-- The promise of the call that lowers leaves one answer and one memory; number and place can be read back.
 -- Assumes nothing.
-use mathlib.Core.Bool.{cond}
 use mathlib.Core.Path.{_≡_, sym, ap, _∙_}
 use Prim.Native.Nat.{ℕ}
-use lib.Dec.{eqb}
-use borrow.Author.Tests.{ne-eqb}
-use Rattle.ir.specs.declared.refusal.Refusal.{Refusal}
-use Rattle.ir.specs.Refusals.{saidOf}
 use Rattle.ir.specs.Program.{Program}
-use Rattle.ir.proofs.RefusalLaws.{refusal-number}
 use Rattle.lower_parts.specs.declared.parts.Lowering.{Lowering}
 use Rattle.lower_parts.specs.Answer.{Lists, Output, saidOfLowering, lowerSaid, LowerAnswer}
 use Rattle.lower.proofs.Single.{lower-single}
 use Rattle.host_answer.specs.Answer.{answerOf, valueOnDone}
 use Rattle.host.specs.LowerCalls.{CalledLower}
 use Rattle.host.proofs.PlaceLaws.{Parts, parts-of, lower-fits}
-
--- a refusal writes no value
-pub kept : (why : Refusal) (k old : ℕ) → old ≡ valueOnDone (saidOf why) k old
-kept why k old = rw (ne-eqb (saidOf why .number) 0 (refusal-number why))
 
 pub cir-lower-single : {p : Program} {b b₁ b₂ : Lists} {o o₁ o₂ : Output} {a a′ count count₁ count₂ bs bs₁ bs₂ xs xs₁ xs₂ : ℕ}
     → CalledLower (λ w. LowerAnswer p b o w b₁ o₁) a count count₁ bs bs₁ xs xs₁ → CalledLower (λ w. LowerAnswer p b o w b₂ o₂) a′ count count₂ bs bs₂ xs xs₂

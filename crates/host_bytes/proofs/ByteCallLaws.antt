@@ -1,15 +1,12 @@
--- A refused lowering writes no length; and each call on bytes leaves one answer and one memory.
+-- Each call on bytes leaves one answer and one memory.
 -- Assumes nothing.
 use mathlib.Core.List.{List}
 use mathlib.Core.Path.{_≡_, sym, ap, _∙_}
 use Prim.Native.Nat.{ℕ}
-use borrow.Author.Tests.{ne-eqb}
 use Rattle.ir.specs.declared.program.Counts.{Counts}
 use Rattle.ir.specs.declared.frame.Shape.{Shape}
-use Rattle.ir.specs.declared.refusal.Refusal.{Refusal}
 use Rattle.ir.specs.declared.refusal.Outcome.{Outcome}
-use Rattle.ir.specs.Refusals.{saidOf, saidOfOutcome}
-use Rattle.ir.proofs.RefusalLaws.{refusal-number}
+use Rattle.ir.specs.Refusals.{saidOfOutcome}
 use Rattle.lower_parts.specs.Answer.{Lists, Output}
 use Rattle.stored.specs.declared.write.Stored.{Stored}
 use Rattle.stored_parts.specs.Form.{Tables}
@@ -22,10 +19,6 @@ use Rattle.byte_walk.proofs.Single.{walk-stored-single}
 use Rattle.host_answer.specs.Answer.{answerOf, valueOnDone}
 use Rattle.host_answer.specs.Called.{Called}
 use Rattle.host_bytes.specs.ByteCalls.{CalledStored}
-
--- a refusal writes no length
-pub no-length : (why : Refusal) (length : ℕ) → length ≡ valueOnDone (saidOf why) 0 length
-no-length why length = rw (ne-eqb (saidOf why .number) 0 (refusal-number why))
 
 pub cir-check-stored-single : {s : Shape} {file : List ℕ} {rooms rooms₁ rooms₂ : Tables} {marks marks₁ marks₂ : List ℕ} {a a′ : ℕ}
     → Called (λ o. CheckStored s file rooms marks o rooms₁ marks₁) a → Called (λ o. CheckStored s file rooms marks o rooms₂ marks₂) a′

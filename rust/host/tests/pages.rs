@@ -46,7 +46,7 @@ fn every_must_fail_edit_is_in_promises() {
     let promises = text(&root().join("docs/PROMISES.md"));
     let folders = entries(&root().join("crates"))
         .into_iter()
-        .map(|crate_| crate_.join("must-fail"));
+        .flat_map(|crate_| ["must-fail", "must-fail-slow"].map(|name| crate_.join(name)));
     let mut edits = 0;
     for edit in folders
         .filter(|folder| folder.is_dir())

@@ -1,5 +1,5 @@
 use mathlib.Core.Path.{refl}
-use Rattle.host.proofs.LowerCallLaws.{kept}
+use Rattle.host_answer.proofs.ValueLaws.{value-kept}
 use borrow.Author.Needs.{needs}
 use Rattle.host.proofs.lower_calls.coded_lowering.Statement.{statement}
 use Rattle.host.proofs.lower_calls.coded_lowering.Tie as tie
@@ -25,7 +25,7 @@ returns c = rw (c .before .told .given .1) (refl, (refl, (refl, refl)))
 
 -- src/lower_calls.rt:14:1
 returns-2 : tie.Need-returns-2
-returns-2 c = rw (c .before .before .told2 .given .1) (c .coded-refusal .ensures, (kept (c .before .before .told2 .given .0 .0) 0 (c .before .before .before .before .args .count .now), (kept (c .before .before .told2 .given .0 .0) 5 (c .before .before .before .before .args .bs .now), kept (c .before .before .told2 .given .0 .0) 6 (c .before .before .before .before .args .xs .now))))
+returns-2 c = rw (c .before .before .told2 .given .1) (c .coded-refusal .ensures, (value-kept (c .before .before .told2 .given .0 .0) 0 (c .before .before .before .before .args .count .now), (value-kept (c .before .before .told2 .given .0 .0) 5 (c .before .before .before .before .args .bs .now), value-kept (c .before .before .told2 .given .0 .0) 6 (c .before .before .before .before .args .xs .now))))
 
 pub coded-lowering-spec : {M : Type 1} → statement M
 coded-lowering-spec =

@@ -1,5 +1,5 @@
 use mathlib.Core.Path.{refl}
-use Rattle.host_bytes.proofs.ByteCallLaws.{no-length}
+use Rattle.host_answer.proofs.ValueLaws.{value-kept}
 use borrow.Author.Needs.{needs}
 use Rattle.host_bytes.proofs.byte_calls.coded_stored.Statement.{statement}
 use Rattle.host_bytes.proofs.byte_calls.coded_stored.Tie as tie
@@ -25,7 +25,7 @@ returns c = rw (c .before .told .given .1) (refl, refl)
 
 -- src/byte_calls.rt:44:1
 returns-2 : tie.Need-returns-2
-returns-2 c = rw (c .before .before .told2 .given .1) (c .coded-refusal .ensures, no-length (c .before .before .told2 .given .0 .0) (c .before .before .before .before .args .length .now))
+returns-2 c = rw (c .before .before .told2 .given .1) (c .coded-refusal .ensures, value-kept (c .before .before .told2 .given .0 .0) 0 (c .before .before .before .before .args .length .now))
 
 pub coded-stored-spec : {M : Type 1} → statement M
 coded-stored-spec =
