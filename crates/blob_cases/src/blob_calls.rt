@@ -40,7 +40,7 @@ fn cleared(c: BlobCounts, answer: u64) -> usize {
 }
 
 // What a walk writes values of: nothing where it refuses.
-#[derive(Drop)]
+#[derive(Clone, Copy)]
 struct Amounts {
     leading: usize,
     roots: usize,

@@ -6,7 +6,7 @@ use sample::line::{count_at, plus, shape_at};
 
 // What a line says of its blob and frame, and where each table starts: it ends where the next one starts. The answers
 // come last.
-#[derive(Drop)]
+#[derive(Clone, Copy)]
 pub struct Case {
     pub counts: BlobCounts,
     pub shape: Shape,
@@ -21,7 +21,7 @@ pub struct Case {
 }
 
 // How many words of each are lent for writing.
-#[derive(Drop)]
+#[derive(Clone, Copy)]
 pub struct Rooms {
     pub bytes: usize,
     pub slots: usize,

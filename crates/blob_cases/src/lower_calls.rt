@@ -55,7 +55,7 @@ pub fn rooms_fit(r: Rooms) -> bool {
 }
 
 // What the call said: its answer, and on 0 the blob's nodes and slots.
-#[derive(Drop)]
+#[derive(Clone, Copy)]
 struct Said {
     answer: u64,
     nodes: u32,

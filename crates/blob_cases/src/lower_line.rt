@@ -4,7 +4,7 @@ use ir::program::Counts;
 use sample::line::{count_at, plus};
 
 // What a line says of its program, and where each table starts: it ends where the next one starts. The answer comes last.
-#[derive(Drop)]
+#[derive(Clone, Copy)]
 pub struct Case {
     pub counts: Counts,
     pub bases: usize,
@@ -14,7 +14,7 @@ pub struct Case {
 }
 
 // How many words of each list are lent, and of each table for the blob.
-#[derive(Drop)]
+#[derive(Clone, Copy)]
 pub struct Rooms {
     pub used: usize,
     pub last_use: usize,

@@ -2,6 +2,8 @@
 // standard input, and holds each answer and each word to the numbers there. The file stdin beside this is what
 // `cargo run --release --offline -p differential --bin blob_sample` prints in rust/; the heads of
 // rust/differential/src/blobs/sample.rs and rust/differential/src/lowering/sample.rs say what the numbers are.
+#![tactic(auto)]
+
 mod blob;
 mod blob_calls;
 mod blob_line;

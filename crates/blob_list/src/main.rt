@@ -1,4 +1,6 @@
 // Lists the blob that stands in stored form A on standard input, or says why there is none.
+#![tactic(auto)]
+
 use libc::{STDIN_FILENO, STDOUT_FILENO};
 use listing::listing::list_stored;
 

@@ -3,7 +3,7 @@ ghost use Rattle.std.specs.Prelude.{◌≡◌};
 ghost use Rattle.blob_rules.specs.Blob.{is_ext, slot_of, kind_of, payload_of};
 
 // What a blob's tables hold, num_base as the caller has it, and how many slots of each class there are.
-#[derive(Drop)]
+#[derive(Clone, Copy)]
 pub struct BlobCounts {
     pub nodes: u32,
     pub bases: u32,

@@ -27,7 +27,7 @@ use node_table::table::{Node, Put, least, push, room};
 use node_table::tests::{is_no_node, past_index};
 
 // How many of each the lent tables hold.
-#[derive(Drop)]
+#[derive(Clone, Copy)]
 pub struct IrBuilder {
     pub nodes: usize,
     pub bases: usize,
@@ -36,21 +36,21 @@ pub struct IrBuilder {
 }
 
 // A handle to a node: its id and its dim.
-#[derive(Drop)]
+#[derive(Clone, Copy)]
 pub struct Expr {
     pub id: u32,
     pub dim: u32,
 }
 
 // The node's handle and the builder after the call, or why there is none.
-#[derive(Drop)]
+#[derive(Clone, Copy)]
 pub enum Answer {
     Made { expr: Expr, builder: IrBuilder },
     Refused(Refusal),
 }
 
 // The builder after a root was set, or why none was.
-#[derive(Drop)]
+#[derive(Clone, Copy)]
 pub enum Emitted {
     Rooted(IrBuilder),
     Refused(Refusal),

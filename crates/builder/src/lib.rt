@@ -1,3 +1,5 @@
 // The builder over lent memory, after builder.rs: its calls.
+#![tactic(auto)]
+
 pub mod ir_builder;
 pub mod roots;

@@ -7,7 +7,7 @@ ghost use Rattle.builder_call.specs.CallData.{call_of};
 use builder::ir_builder::{Answer, Expr, IrBuilder};
 
 // A call with its arguments.
-#[derive(Drop)]
+#[derive(Clone, Copy)]
 pub enum Call {
     Main { offset: u8, col: usize },
     Aux { offset: u8, col: usize },

@@ -135,7 +135,7 @@ fn hold_report(line: &[u64], seen: Seen, b: IrBuilder, roots: &[u32]) -> Seen {
 }
 
 // What a history has come to: the builder after it, and what was seen.
-#[derive(Drop)]
+#[derive(Clone, Copy)]
 struct Replayed {
     builder: IrBuilder,
     seen: Seen,

@@ -1,6 +1,8 @@
 // Replays histories of builder calls on standard input, and holds each answer and each word to the numbers there. The file
 // stdin beside this is what `cargo run --release --offline -p differential --bin builder_sample` prints in rust/; the head of
 // rust/differential/src/builder/sample.rs says what the numbers are.
+#![tactic(auto)]
+
 mod history;
 mod perform;
 

@@ -6,7 +6,7 @@ use sample::answer::refusal_number;
 use sample::line::{count_at, limbs_at, number_at, plus};
 
 // What a call has come to: the builder after it, its answer, and what it gives.
-#[derive(Drop)]
+#[derive(Clone, Copy)]
 pub struct Outcome {
     pub builder: IrBuilder,
     pub answer: u64,

@@ -1,5 +1,7 @@
 // Document 01's cases of the builder that no theorem's table holds: the last column that there is, and a constraint emitted
 // past two gaps, with its program lowered.
+#![tactic(auto)]
+
 use builder::ir_builder::{Answer, Emitted, IrBuilder};
 use lower::lower::lower;
 use lower_parts::parts::Lowering;

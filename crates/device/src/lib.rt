@@ -1,2 +1,4 @@
 // The blob check, after device.rs: it is exact.
+#![tactic(auto)]
+
 pub mod check;

@@ -47,7 +47,7 @@ pub fn write_roots(
 }
 
 // A base value, or a refusal.
-#[derive(Drop)]
+#[derive(Clone, Copy)]
 pub enum Evaluated {
     Base(u64),
     Rejected(Refusal),

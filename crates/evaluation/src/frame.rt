@@ -1,7 +1,7 @@
 // What was lent to an evaluator.
 
 // The words lent for each table, and for the room.
-#[derive(Drop)]
+#[derive(Clone, Copy)]
 pub struct Lengths {
     pub nodes: usize,
     pub bases: usize,

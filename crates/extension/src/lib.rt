@@ -1,2 +1,4 @@
 // The cubic extension of the field.
+#![tactic(auto)]
+
 pub mod extensions_goldilocks;

@@ -5,7 +5,7 @@ ghost use Rattle.std.specs.Prelude.{◌≡◌, ◌+◌, ◌*◌, ◌/◌, ◌%�
 ghost use Rattle.field.specs.Wide.{HalfProduct, Carry};
 
 // A sum of words: the word that is left, and how often it passed 2^64.
-#[derive(Drop)]
+#[derive(Clone, Copy)]
 pub struct Carried {
     pub word: u64,
     pub carry: u64,

@@ -1,6 +1,8 @@
 // Runs sums of the field on the code and prints each with the words that it gives. The file stdout
 // beside this has what document 01 says, and for the sums that it does not list what plain
 // arithmetic on whole numbers gives.
+#![tactic(auto)]
+
 use extension::extensions_goldilocks::Ext;
 use field::goldilocks::Fp;
 use libc::STDOUT_FILENO;

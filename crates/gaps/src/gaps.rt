@@ -8,7 +8,7 @@ use builder::ir_builder::IrBuilder;
 use ir::refusal::Refusal;
 
 // The gaps, written to the caller's room, or why there are none.
-#[derive(Drop)]
+#[derive(Clone, Copy)]
 pub enum Gaps {
     Listed { count: usize },
     Refused(Refusal),

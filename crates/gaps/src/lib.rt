@@ -1,3 +1,5 @@
 // The report of constraints that have no root.
+#![tactic(auto)]
+
 pub mod answers;
 pub mod gaps;

@@ -1,2 +1,4 @@
 // The field's calls that a Rust or C host links; include/cir.h declares them. Every call takes every input.
+#![tactic(auto)]
+
 mod field_calls;

@@ -1,2 +1,4 @@
 // The evaluators, after interp.rs.
+#![tactic(auto)]
+
 pub mod interp;

@@ -3,7 +3,7 @@ ghost use Rattle.std.specs.Prelude.{◌≡◌};
 ghost use Rattle.ir.specs.Shape.{over_shape};
 
 // A rectangular frame: steps of main and aux cells, and the uniforms of a proof.
-#[derive(Drop)]
+#[derive(Clone, Copy)]
 pub struct Shape {
     pub steps: usize,
     pub main: usize,

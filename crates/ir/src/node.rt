@@ -31,7 +31,7 @@ pub const DIM_BASE: u32 = 0;
 pub const DIM_EXT: u32 = 1;
 
 // A read of a trace cell.
-#[derive(Drop)]
+#[derive(Clone, Copy)]
 pub struct Var {
     pub main: bool,
     pub offset: u8,
@@ -40,7 +40,7 @@ pub struct Var {
 }
 
 // A read of a trace cell, as its node's x and y.
-#[derive(Drop)]
+#[derive(Clone, Copy)]
 pub struct Packed {
     pub a: u32,
     pub b: u32,

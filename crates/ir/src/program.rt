@@ -12,7 +12,7 @@ use super::node::{
 use super::refusal::{Outcome, Place, Refusal};
 
 // What a program's tables hold, and num_base as the caller has it.
-#[derive(Drop)]
+#[derive(Clone, Copy)]
 pub struct Counts {
     pub nodes: usize,
     pub bases: usize,

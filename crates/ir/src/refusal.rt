@@ -1,6 +1,6 @@
 // Why a call refuses: one case for each row of document 01's table. A case with a place names what is at fault: in 7
 // and 11 the lowest node, else the lowest root; in 12 the constraint; in 13 the lowest node.
-#[derive(Drop)]
+#[derive(Clone, Copy)]
 pub enum Refusal {
     // 1: lent memory is shorter than counts or shape need.
     ShortMemory,
@@ -35,14 +35,14 @@ pub enum Refusal {
 }
 
 // Done, with nothing to hand back, or refused.
-#[derive(Drop)]
+#[derive(Clone, Copy)]
 pub enum Outcome {
     Done,
     Refused(Refusal),
 }
 
 // The place that a search finds.
-#[derive(Drop)]
+#[derive(Clone, Copy)]
 pub enum Place {
     At(usize),
     Nowhere,

@@ -1,2 +1,4 @@
 // Numbers as little-endian bytes.
+#![tactic(auto)]
+
 pub mod bytes;

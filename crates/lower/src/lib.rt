@@ -1,2 +1,4 @@
 // Lowering, after device.rs.
+#![tactic(auto)]
+
 pub mod lower;

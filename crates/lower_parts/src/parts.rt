@@ -15,7 +15,7 @@ use ir::refusal::Refusal;
 use scan::scan::{Progress, scan_nodes};
 
 // The blob's counts, with its words in the caller's room, or why there is none.
-#[derive(Drop)]
+#[derive(Clone, Copy)]
 pub enum Lowering {
     Lowered(BlobCounts),
     Refused(Refusal),

@@ -9,7 +9,7 @@ ghost use Rattle.node_table.specs.Puts.{Pushes};
 use ir::program::MOST;
 
 // A node's words.
-#[derive(Drop)]
+#[derive(Clone, Copy)]
 pub struct Node {
     pub tag: u32,
     pub x: u32,
@@ -114,7 +114,7 @@ fn find(nodes: &[u32], count: usize, places: &[u32], w: Node) -> usize
 }
 
 // What a push comes to.
-#[derive(Drop)]
+#[derive(Clone, Copy)]
 pub enum Put {
     // The node's id, and how many nodes there are now.
     At { id: u32, count: usize },

@@ -6,7 +6,7 @@ use sample::line::{count_at, plus, shape_at, times};
 
 // What a line says of its program and frame, and where each table starts: it ends where the next one starts. The wide
 // table is the verifier's main cells; the answers come last.
-#[derive(Drop)]
+#[derive(Clone, Copy)]
 pub struct Case {
     pub counts: Counts,
     pub shape: Shape,

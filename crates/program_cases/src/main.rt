@@ -2,6 +2,8 @@
 // each word to the numbers there. The file stdin beside this is what
 // `cargo run --release --offline -p differential --bin program_sample` prints in rust/; the head of
 // rust/differential/src/programs/sample.rs says what the numbers are.
+#![tactic(auto)]
+
 mod calls;
 mod limits;
 mod line;

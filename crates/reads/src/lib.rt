@@ -1,2 +1,4 @@
 // Which trace columns a program reads in the next row.
+#![tactic(auto)]
+
 pub mod reads;

@@ -23,7 +23,7 @@ const PLACES: usize = 131072;
 const MARK: u8 = 1;
 
 // The columns, written to the caller's room, or why there are none.
-#[derive(Drop)]
+#[derive(Clone, Copy)]
 pub enum Columns {
     Listed { count: usize },
     Refused(Refusal),

@@ -1,5 +1,7 @@
 // What the programs share that replay a printed sample: the numbers of its lines, their parts, answers as numbers, and
 // what a case has come to. The head of rust/differential/src/lines.rs says what a line is.
+#![tactic(auto)]
+
 pub mod answer;
 pub mod input;
 pub mod line;

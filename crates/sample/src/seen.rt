@@ -1,7 +1,7 @@
 // What a case has come to, word by word.
 use super::line::part;
 
-#[derive(Drop)]
+#[derive(Clone, Copy)]
 pub enum Seen {
     // The numbers before a place agree with what the calls gave.
     Agrees { at: usize },

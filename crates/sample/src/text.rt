@@ -2,7 +2,7 @@
 
 // What reading has come to: how many numbers were stored, the value of the digits since the last of them, and whether
 // all was as it should be.
-#[derive(Drop)]
+#[derive(Clone, Copy)]
 pub struct Reading {
     pub count: usize,
     pub value: u64,

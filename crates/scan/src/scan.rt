@@ -55,7 +55,7 @@ fn release(
 }
 
 // How far the scan is: the slots, and the nodes written.
-#[derive(Drop)]
+#[derive(Clone, Copy)]
 pub struct Progress {
     pub pools: Pools,
     pub count: usize,

@@ -4,13 +4,13 @@ ghost use Rattle.ir.specs.Words.{node_at};
 ghost use Rattle.scan_parts.specs.Pools.{ClassOk, TakeOk, Takes, PushOk, GiveOk, Gives};
 
 // Of base and of extension: how many slots are free, and how many there are.
-#[derive(Drop)]
+#[derive(Clone, Copy)]
 pub struct Pools {
     pub tops: [usize; 2],
     pub nexts: [u32; 2],
 }
 
-#[derive(Drop)]
+#[derive(Clone, Copy)]
 pub struct Taken {
     pub slot: u32,
     pub pools: Pools,

@@ -41,7 +41,7 @@ fn enc_operand(j: u32, nodes: &[u32], emitted: &[u32], slot_of: &[u32]) -> u32
 }
 
 // The words of a node but its result.
-#[derive(Drop)]
+#[derive(Clone, Copy)]
 pub struct Words {
     pub op: u32,
     pub a: u32,

@@ -8,7 +8,7 @@ use ir::frame::Shape;
 use values::value::{Value, base_leaf, ext_leaf};
 
 // A trace's rows, and the one that is walked.
-#[derive(Drop)]
+#[derive(Clone, Copy)]
 pub struct Row {
     pub rows: usize,
     pub row: usize,

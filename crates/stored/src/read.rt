@@ -10,7 +10,7 @@ use stored_parts::form::short_tables;
 use stored_parts::reading::{bad_framing, counts_in, read_constants, read_words};
 
 // The blob's counts, with its words at the front of the caller's rooms, or why there are none.
-#[derive(Drop)]
+#[derive(Clone, Copy)]
 pub enum ReadStored {
     Read(BlobCounts),
     Refused(Refusal),

@@ -11,7 +11,7 @@ use stored_parts::form::{TRAILER_BYTES, body_words, no_room, short_tables};
 use stored_parts::writing::{write_constants, write_trailer, write_words};
 
 // The length of the file that stands at the front of the caller's room, or why there is none.
-#[derive(Drop)]
+#[derive(Clone, Copy)]
 pub enum Stored {
     Written { bytes: usize },
     Refused(Refusal),

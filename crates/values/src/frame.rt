@@ -2,7 +2,7 @@
 
 // What a leaf may name: a step, a column of either trace, an index of either uniform table, and whether there
 // is a table offset (1) or none (0).
-#[derive(Drop)]
+#[derive(Clone, Copy)]
 pub struct Limits {
     pub steps: usize,
     pub main: usize,
@@ -13,7 +13,7 @@ pub struct Limits {
 }
 
 // How the traces are addressed: cells a step in either, and whether main cells are extension values.
-#[derive(Drop)]
+#[derive(Clone, Copy)]
 pub struct Strides {
     pub wide: bool,
     pub main: usize,

@@ -16,7 +16,7 @@ use ir::node::{
     OP_ADD, OP_ALPHA_POW, OP_CONST_BASE, OP_CONST_EXT, OP_NEG, OP_RAP_CHALLENGE, OP_SUB, OP_VAR,
 };
 
-#[derive(Drop)]
+#[derive(Clone, Copy)]
 pub struct Value {
     pub class: u64,
     pub limbs: Ext,

@@ -1,3 +1,5 @@
 // The walk over a blob, after device.rs.
+#![tactic(auto)]
+
 mod row;
 pub mod walk;

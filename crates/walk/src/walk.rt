@@ -18,7 +18,7 @@ use slots::cell::Row;
 use slots::evals::write_roots;
 
 // How many words of constants, cells and uniforms are lent.
-#[derive(Drop)]
+#[derive(Clone, Copy)]
 pub struct FrameLengths {
     pub bases: usize,
     pub exts: usize,
