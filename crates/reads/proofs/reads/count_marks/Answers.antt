@@ -1,0 +1,22 @@
+use mathlib.Core.Path.{◌≡◌}
+use Prim.Native.Nat.{◌-◌}
+use native.Mathlib.Omega.{arith}
+use Rattle.laws.proofs.Folds.{all_start, all_count}
+use Rattle.reads.specs.Marks.{is_marked}
+use Rattle.reads.proofs.ReadsLaws.{bit_small}
+use Rattle.reads.proofs.reads.count_marks.Goals as goal
+
+pub loop-c-init : goal.loop-c-init
+loop-c-init c = (omega arith, omega arith, rw (all_start (is_marked c.args.map.now)))
+
+pub overflow_add-count : goal.overflow_add-count
+overflow_add-count c = omega (arith, c.weight-count.ensures, bit_small (is_marked c.args.map.now c.loop-c.c))
+
+pub loop-c-preserved : goal.loop-c-preserved
+loop-c-preserved c =
+    let t = is_marked c.args.map.now in
+    let l = c.loop-c in
+    (omega arith, omega (arith, c.weight-count.ensures, bit_small (t l.c)), rw (all_count t l.c, ← l.invariant.2, c.weight-count.ensures))
+
+pub returns : goal.returns
+returns c = let l = c.loop-c in let e : l.c ≡ c.args.limit = omega arith in rw e at l.invariant.2
