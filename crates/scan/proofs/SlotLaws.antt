@@ -4,7 +4,7 @@
 use Rattle.scan_parts.proofs.UpdLaws.{upd_same, upd_other, upd_case}
 use mathlib.Core.List.{List, [], ◌∷◌}
 use mathlib.Core.Logic.{◌≢◌, by_cases}
-use mathlib.Core.Path.{◌≡◌, refl, sym, ap, ◌∙◌}
+use mathlib.Core.Path.{◌≡◌, refl, sym, ap, subst, ◌∙◌}
 use Prim.Native.Nat.{ℕ, suc, ◌<◌, ◌≤◌}
 use native.Mathlib.Decide.{ℕ_discrete}
 use native.Mathlib.Omega.{arith}
@@ -71,7 +71,7 @@ module _ (cls : ℕ → ℕ) where
           low = λ a t x. g.low a t (kept slot j a t x);
           spare =
               λ c. upd_case (λ l. Spare (upd slot j 0) c (next c) l) free (cls j) (s ∷ free (cls j)) c
-              (λ q. rw q (g.low j s e, gone, spare_differ slot (next (cls j)) j s (free (cls j)) e (g.spare (cls j)), after (cls j)))
+              (λ q. rw q (g.low j s e, gone, spare_differ slot (next (cls j)) j s (free (cls j)) e (g.spare (cls j)), subst (λ z. Spare (upd slot j 0) c (next c) (free z)) q (after c)))
               λ n. after c;
         }
 

@@ -24,4 +24,4 @@ pub shape_of-out : goal.shape_of-out
 shape_of-out c = let a = c.args in let l = c.loop-i in out_long a.nodes.now a.emitted.now a.last_use.now a.is_root.now a.slot_of.now a.free.now a.out.now c.requires l.i l.slot_of l.free l.place.pools.tops l.place.pools.nexts l.out l.place.count l.invariant.2 l.invariant.1 l.invariant.0
 
 pub returns : goal.returns
-returns c = let l = c.loop-i in let e : l.i ≡ length c.args.slot_of.now = omega (arith, c.loop-i-test.false, l.invariant.0) in (rw e at l.invariant.2, l.invariant.1)
+returns c = let l = c.loop-i in let e : l.i ≡ length c.args.slot_of.now = omega (arith, c.loop-i-test.false, l.invariant.0) in record { scanned = rw e at l.invariant.2; slot_of_len_unchanged = l.invariant.1 }

@@ -12,7 +12,7 @@ pub release-left-requires : goal.release-left-requires
 release-left-requires c = let a = c.args in (omega (arith, c.requires.place, c.requires.scannable.few), release_ok a.i a.nodes.now a.emitted.now a.last_use.now a.is_root.now a.slot_of.now a.free.now a.place.pools.tops a.place.pools.nexts a.out.now a.place.count c.requires c.if-emitted-i-eq0.false)
 
 pub claim-requires : goal.claim-requires
-claim-requires c = let a = c.args in let e = c.release-left.ensures in claim_ok_left a.i a.nodes.now a.emitted.now a.last_use.now a.is_root.now a.slot_of.now a.free.now a.place.pools.tops a.place.pools.nexts a.out.now a.place.count c.requires c.if-emitted-i-eq0.false _ _ _ e.0 _ e.1
+claim-requires c = let a = c.args in let e = c.release-left.ensures in claim_ok_left a.i a.nodes.now a.emitted.now a.last_use.now a.is_root.now a.slot_of.now a.free.now a.place.pools.tops a.place.pools.nexts a.out.now a.place.count c.requires c.if-emitted-i-eq0.false _ _ _ e.released _ e.nexts_value
 
 pub returns : goal.returns
-returns c = let a = c.args in let e = c.release-left.ensures in let m = c.claim.ensures in advances_left a.i a.nodes.now a.emitted.now a.last_use.now a.is_root.now a.slot_of.now a.free.now a.place.pools.tops a.place.pools.nexts a.out.now a.place.count c.requires c.if-emitted-i-eq0.false _ _ _ e.0 _ _ _ c.spell-w.ensures _ _ _ _ _ e.1 m.1 _ m.0
+returns c = let a = c.args in let e = c.release-left.ensures in let m = c.claim.ensures in advances_left a.i a.nodes.now a.emitted.now a.last_use.now a.is_root.now a.slot_of.now a.free.now a.place.pools.tops a.place.pools.nexts a.out.now a.place.count c.requires c.if-emitted-i-eq0.false _ _ _ e.released _ _ _ c.spell-w.ensures _ _ _ _ _ e.nexts_value m.claimed _ m.count_value

@@ -1,0 +1,12 @@
+use Rattle.stored_parts.specs.Form.{spread}
+use lib.ListN.{length, take}
+use lib.Seq.{sets}
+use mathlib.Core.Path.{◌≡◌}
+use Prim.Native.Nat.{◌≤◌, ◌-◌}
+use Rattle.byte_words.proofs.rooms.pack32.Given as goal
+
+abbrev pub invariant-loop-i : goal.invariant-loop-i
+invariant-loop-i l = (l.i ≤ length l.from) × (l.to ≡ sets l.initial.to 0 (spread 4 (take l.i l.from)))
+
+abbrev pub decreases-loop-i : goal.decreases-loop-i
+decreases-loop-i l = length l.from - l.i
