@@ -29,7 +29,7 @@ fn short_frame_rooms(
     cw: &[u64],
     pw: &[u64],
 ) -> bool
-    ensures { result ≡ short_frame_rooms (record { main = main.entry.now; aux = aux.now; challenges = challenges.now; alphas = alphas.now }) (record { main = mw.now; aux = aw.now; challenges = cw.now; alphas = pw.now }) }
+    ensures { result ≡ short_frame_rooms (record { main = main.now; aux = aux.now; challenges = challenges.now; alphas = alphas.now }) (record { main = mw.now; aux = aw.now; challenges = cw.now; alphas = pw.now }) }
 {
     if is_tight(main.len(), mw.len()) {
         return true;
@@ -55,7 +55,7 @@ fn refused_early(
     cw: &[u64],
     pw: &[u64],
 ) -> bool
-    ensures { result ≡ (over_shape s || short_frame_rooms (record { main = main.entry.now; aux = aux.now; challenges = challenges.now; alphas = alphas.now }) (record { main = mw.now; aux = aw.now; challenges = cw.now; alphas = pw.now })) }
+    ensures { result ≡ (over_shape s || short_frame_rooms (record { main = main.now; aux = aux.now; challenges = challenges.now; alphas = alphas.now }) (record { main = mw.now; aux = aw.now; challenges = cw.now; alphas = pw.now })) }
 {
     if over_shape(s) {
         return true;
@@ -74,7 +74,7 @@ fn early_refusal(s: Shape) -> Refusal
 }
 
 fn short_eval_rooms(base: &[u8], ext: &[u8], bw: &[u64], xw: &[u64]) -> bool
-    ensures { result ≡ short_eval_rooms (record { base = base.entry.now; ext = ext.now }) (record { base = bw.now; ext = xw.now }) }
+    ensures { result ≡ short_eval_rooms (record { base = base.now; ext = ext.now }) (record { base = bw.now; ext = xw.now }) }
 {
     if is_tight(base.len(), bw.len()) {
         return true;
@@ -93,7 +93,7 @@ fn unpack_frame(
     pw: &mut [u64],
 )
     requires { FrameFits (record { main = main.now; aux = aux.now; challenges = challenges.now; alphas = alphas.now }) (record { main = mw.old; aux = aw.old; challenges = cw.old; alphas = pw.old }) }
-    ensures { record { main = mw.new; aux = aw.new; challenges = cw.new; alphas = pw.new } ≡ put_frame (frame_words (record { main = main.entry.now; aux = aux.now; challenges = challenges.now; alphas = alphas.now })) (record { main = mw.old; aux = aw.old; challenges = cw.old; alphas = pw.old }) }
+    ensures { record { main = mw.new; aux = aw.new; challenges = cw.new; alphas = pw.new } ≡ put_frame (frame_words (record { main = main.now; aux = aux.now; challenges = challenges.now; alphas = alphas.now })) (record { main = mw.old; aux = aw.old; challenges = cw.old; alphas = pw.old }) }
 {
     unpack64(main, mw);
     unpack64(aux, aw);
@@ -122,7 +122,7 @@ fn walk_words(
     slots: &mut [u64],
 ) -> Outcome
     requires { (8 * length bw.old ≤ length base.old) × (8 * length xw.old ≤ length ext.old) }
-    ensures { Packed (record { counts = c; nodes = nodes.now; roots = roots.now }) s (lent bases.now exts.now main.now aux.now challenges.now alphas.now offset.limbs) (record { base = base.entry.now; ext = ext.old }) (record { base = bw.old; ext = xw.old }) marks.old slots.old result (record { base = base.exit.now; ext = ext.new }) (record { base = bw.new; ext = xw.new }) marks.new slots.new }
+    ensures { Packed (record { counts = c; nodes = nodes.now; roots = roots.now }) s (lent bases.now exts.now main.now aux.now challenges.now alphas.now offset.limbs) (record { base = base.old; ext = ext.old }) (record { base = bw.old; ext = xw.old }) marks.old slots.old result (record { base = base.new; ext = ext.new }) (record { base = bw.new; ext = xw.new }) marks.new slots.new }
 {
     match walk(
         c,
@@ -170,8 +170,8 @@ fn walk_evals(
     marks: &mut [u8],
     slots: &mut [u64],
 ) -> Outcome
-    requires { EvalsFit (record { base = base.now; ext = ext.old }) (record { base = bw.old; ext = xw.old }) }
-    ensures { Walked (record { counts = c; nodes = nodes.now; roots = roots.now }) s (lent bases.now exts.now main.now aux.now challenges.now alphas.now offset.limbs) (record { base = base.entry.now; ext = ext.old }) (record { base = bw.old; ext = xw.old }) marks.old slots.old result (record { base = base.exit.now; ext = ext.new }) (record { base = bw.new; ext = xw.new }) marks.new slots.new }
+    requires { EvalsFit (record { base = base.old; ext = ext.old }) (record { base = bw.old; ext = xw.old }) }
+    ensures { Walked (record { counts = c; nodes = nodes.now; roots = roots.now }) s (lent bases.now exts.now main.now aux.now challenges.now alphas.now offset.limbs) (record { base = base.old; ext = ext.old }) (record { base = bw.old; ext = xw.old }) marks.old slots.old result (record { base = base.new; ext = ext.new }) (record { base = bw.new; ext = xw.new }) marks.new slots.new }
 {
     unpack64(&base[..], &mut bw[..]);
     unpack64(&ext[..], &mut xw[..]);
@@ -222,7 +222,7 @@ fn walk_bytes(
     marks: &mut [u8],
     slots: &mut [u64],
 ) -> Outcome
-    ensures { WalkBytes (record { counts = c; nodes = nodes.entry.now; roots = roots.now }) s (record { nodes = nodes.entry.now; bases = bases.now; exts = exts.now; roots = roots.now }) offset.limbs (record { main = main.entry.now; aux = aux.now; challenges = challenges.now; alphas = alphas.now }) (record { evals = record { base = base.entry.now; ext = ext.old }; frame_rooms = record { main = mw.old; aux = aw.old; challenges = cw.old; alphas = pw.old }; eval_rooms = record { base = bw.old; ext = xw.old }; marks = marks.old; slots = slots.old }) result (record { evals = record { base = base.exit.now; ext = ext.new }; frame_rooms = record { main = mw.new; aux = aw.new; challenges = cw.new; alphas = pw.new }; eval_rooms = record { base = bw.new; ext = xw.new }; marks = marks.new; slots = slots.new }) }
+    ensures { WalkBytes (record { counts = c; nodes = nodes.now; roots = roots.now }) s (record { nodes = nodes.now; bases = bases.now; exts = exts.now; roots = roots.now }) offset.limbs (record { main = main.now; aux = aux.now; challenges = challenges.now; alphas = alphas.now }) (record { evals = record { base = base.old; ext = ext.old }; frame_rooms = record { main = mw.old; aux = aw.old; challenges = cw.old; alphas = pw.old }; eval_rooms = record { base = bw.old; ext = xw.old }; marks = marks.old; slots = slots.old }) result (record { evals = record { base = base.new; ext = ext.new }; frame_rooms = record { main = mw.new; aux = aw.new; challenges = cw.new; alphas = pw.new }; eval_rooms = record { base = bw.new; ext = xw.new }; marks = marks.new; slots = slots.new }) }
 {
     if refused_early(
         s,
@@ -291,7 +291,7 @@ pub fn walk_stored(
     marks: &mut [u8],
     slots: &mut [u64],
 ) -> Outcome
-    ensures { WalkStored s offset.limbs file.now (record { nodes = nodes.entry.now; bases = bases.old; exts = exts.old; roots = roots.old }) (record { main = main.entry.now; aux = aux.now; challenges = challenges.now; alphas = alphas.now }) (record { evals = record { base = base.entry.now; ext = ext.old }; frame_rooms = record { main = mw.old; aux = aw.old; challenges = cw.old; alphas = pw.old }; eval_rooms = record { base = bw.old; ext = xw.old }; marks = marks.old; slots = slots.old }) result (record { nodes = nodes.exit.now; bases = bases.new; exts = exts.new; roots = roots.new }) (record { evals = record { base = base.exit.now; ext = ext.new }; frame_rooms = record { main = mw.new; aux = aw.new; challenges = cw.new; alphas = pw.new }; eval_rooms = record { base = bw.new; ext = xw.new }; marks = marks.new; slots = slots.new }) }
+    ensures { WalkStored s offset.limbs file.now (record { nodes = nodes.old; bases = bases.old; exts = exts.old; roots = roots.old }) (record { main = main.now; aux = aux.now; challenges = challenges.now; alphas = alphas.now }) (record { evals = record { base = base.old; ext = ext.old }; frame_rooms = record { main = mw.old; aux = aw.old; challenges = cw.old; alphas = pw.old }; eval_rooms = record { base = bw.old; ext = xw.old }; marks = marks.old; slots = slots.old }) result (record { nodes = nodes.new; bases = bases.new; exts = exts.new; roots = roots.new }) (record { evals = record { base = base.new; ext = ext.new }; frame_rooms = record { main = mw.new; aux = aw.new; challenges = cw.new; alphas = pw.new }; eval_rooms = record { base = bw.new; ext = xw.new }; marks = marks.new; slots = slots.new }) }
 {
     match read_stored(file, nodes, bases, exts, roots) {
         ReadStored::Refused(why) => Outcome::Refused(why),

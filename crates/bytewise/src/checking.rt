@@ -16,7 +16,7 @@ pub fn check_stored(
     roots: &mut [u32],
     marks: &mut [u8],
 ) -> Outcome
-    ensures { CheckStored s file.now (record { nodes = nodes.entry.now; bases = bases.old; exts = exts.old; roots = roots.old }) marks.old result (record { nodes = nodes.exit.now; bases = bases.new; exts = exts.new; roots = roots.new }) marks.new }
+    ensures { CheckStored s file.now (record { nodes = nodes.old; bases = bases.old; exts = exts.old; roots = roots.old }) marks.old result (record { nodes = nodes.new; bases = bases.new; exts = exts.new; roots = roots.new }) marks.new }
 {
     match read_stored(file, nodes, bases, exts, roots) {
         ReadStored::Refused(why) => Outcome::Refused(why),

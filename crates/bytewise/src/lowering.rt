@@ -83,7 +83,7 @@ fn unpack_tables(
     r: &mut [u32],
 )
     requires { Roomy (record { nodes = nodes.now; bases = bases.now; exts = exts.now; roots = roots.now }) (record { nodes = n.old; bases = b.old; exts = x.old; roots = r.old }) }
-    ensures { record { nodes = n.new; bases = b.new; exts = x.new; roots = r.new } ≡ put (words_of (record { nodes = nodes.entry.now; bases = bases.now; exts = exts.now; roots = roots.now })) (record { nodes = n.old; bases = b.old; exts = x.old; roots = r.old }) }
+    ensures { record { nodes = n.new; bases = b.new; exts = x.new; roots = r.new } ≡ put (words_of (record { nodes = nodes.now; bases = bases.now; exts = exts.now; roots = roots.now })) (record { nodes = n.old; bases = b.old; exts = x.old; roots = r.old }) }
 {
     unpack32(nodes, n);
     unpack64(bases, b);
@@ -109,7 +109,7 @@ fn lower_file(
     ends: &mut [u32],
     file: &mut [u8],
 ) -> Stored
-    ensures { LowerFile (record { counts = c; nodes = nodes.entry.now; bases = bases.now; exts = exts.now; roots = roots.now }) (record { used = used.entry.now; last = last.old; root = root.old; slot = slot.old; free = free.old }) (record { nodes = blob.old; bases = narrow.old; exts = wide.old; roots = ends.old }) file.old result (record { used = used.exit.now; last = last.new; root = root.new; slot = slot.new; free = free.new }) (record { nodes = blob.new; bases = narrow.new; exts = wide.new; roots = ends.new }) file.new }
+    ensures { LowerFile (record { counts = c; nodes = nodes.now; bases = bases.now; exts = exts.now; roots = roots.now }) (record { used = used.old; last = last.old; root = root.old; slot = slot.old; free = free.old }) (record { nodes = blob.old; bases = narrow.old; exts = wide.old; roots = ends.old }) file.old result (record { used = used.new; last = last.new; root = root.new; slot = slot.new; free = free.new }) (record { nodes = blob.new; bases = narrow.new; exts = wide.new; roots = ends.new }) file.new }
 {
     match lower(
         c, nodes, bases, exts, roots, used, last, root, slot, free, blob, narrow, wide, ends,
@@ -142,7 +142,7 @@ pub fn lower_stored(
     ends: &mut [u32],
     file: &mut [u8],
 ) -> Stored
-    ensures { LowerStored c (record { nodes = nodes.entry.now; bases = bases.now; exts = exts.now; roots = roots.now }) (record { nodes = n.old; bases = b.old; exts = x.old; roots = r.old }) (record { used = used.entry.now; last = last.old; root = root.old; slot = slot.old; free = free.old }) (record { nodes = blob.old; bases = narrow.old; exts = wide.old; roots = ends.old }) file.old result (record { nodes = n.new; bases = b.new; exts = x.new; roots = r.new }) (record { used = used.exit.now; last = last.new; root = root.new; slot = slot.new; free = free.new }) (record { nodes = blob.new; bases = narrow.new; exts = wide.new; roots = ends.new }) file.new }
+    ensures { LowerStored c (record { nodes = nodes.now; bases = bases.now; exts = exts.now; roots = roots.now }) (record { nodes = n.old; bases = b.old; exts = x.old; roots = r.old }) (record { used = used.old; last = last.old; root = root.old; slot = slot.old; free = free.old }) (record { nodes = blob.old; bases = narrow.old; exts = wide.old; roots = ends.old }) file.old result (record { nodes = n.new; bases = b.new; exts = x.new; roots = r.new }) (record { used = used.new; last = last.new; root = root.new; slot = slot.new; free = free.new }) (record { nodes = blob.new; bases = narrow.new; exts = wide.new; roots = ends.new }) file.new }
 {
     if refused_early(
         c,

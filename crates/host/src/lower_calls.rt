@@ -54,7 +54,7 @@ pub extern "C" fn cir_lower(
     bs: &mut u32,
     xs: &mut u32,
 ) -> u64
-    ensures { CalledLower (λ o. LowerAnswer (record { counts = counts n b x r leading; nodes = nodes.entry.now; bases = bases.now; exts = exts.now; roots = roots.now }) (record { used = used.entry.now; last = last.old; root = root.old; slot = slot.old; free = free.old }) (record { nodes = blob.old; bases = narrow.old; exts = wide.old; roots = ends.old }) o (record { used = used.exit.now; last = last.new; root = root.new; slot = slot.new; free = free.new }) (record { nodes = blob.new; bases = narrow.new; exts = wide.new; roots = ends.new })) result count.old count.new bs.old bs.new xs.old xs.new }
+    ensures { CalledLower (λ o. LowerAnswer (record { counts = counts n b x r leading; nodes = nodes.now; bases = bases.now; exts = exts.now; roots = roots.now }) (record { used = used.old; last = last.old; root = root.old; slot = slot.old; free = free.old }) (record { nodes = blob.old; bases = narrow.old; exts = wide.old; roots = ends.old }) o (record { used = used.new; last = last.new; root = root.new; slot = slot.new; free = free.new }) (record { nodes = blob.new; bases = narrow.new; exts = wide.new; roots = ends.new })) result count.old count.new bs.old bs.new xs.old xs.new }
 {
     let c = counts_of(n, b, x, r, leading);
     let told = lower(

@@ -31,7 +31,7 @@ pub extern "C" fn cir_check_stored(
     roots: &mut [u32],
     marks: &mut [u8],
 ) -> u64
-    ensures { Called (λ o. CheckStored (shape steps width auxes rap powers) file.now (record { nodes = nodes.entry.now; bases = bases.old; exts = exts.old; roots = roots.old }) marks.old o (record { nodes = nodes.exit.now; bases = bases.new; exts = exts.new; roots = roots.new }) marks.new) result }
+    ensures { Called (λ o. CheckStored (shape steps width auxes rap powers) file.now (record { nodes = nodes.old; bases = bases.old; exts = exts.old; roots = roots.old }) marks.old o (record { nodes = nodes.new; bases = bases.new; exts = exts.new; roots = roots.new }) marks.new) result }
 {
     let s = shape_of(steps, width, auxes, rap, powers);
     coded_outcome(check_stored(s, file, nodes, bases, exts, roots, marks))
@@ -80,7 +80,7 @@ pub extern "C" fn cir_lower_stored(
     file: &mut [u8],
     length: &mut u64,
 ) -> u64
-    ensures { CalledStored (λ o. LowerStored (counts n b x r leading) (record { nodes = nodes.entry.now; bases = bases.now; exts = exts.now; roots = roots.now }) (record { nodes = nw.old; bases = bw.old; exts = xw.old; roots = tw.old }) (record { used = used.entry.now; last = last.old; root = root.old; slot = slot.old; free = free.old }) (record { nodes = blob.old; bases = narrow.old; exts = wide.old; roots = ends.old }) file.old o (record { nodes = nw.new; bases = bw.new; exts = xw.new; roots = tw.new }) (record { used = used.exit.now; last = last.new; root = root.new; slot = slot.new; free = free.new }) (record { nodes = blob.new; bases = narrow.new; exts = wide.new; roots = ends.new }) file.new) result length.old length.new }
+    ensures { CalledStored (λ o. LowerStored (counts n b x r leading) (record { nodes = nodes.now; bases = bases.now; exts = exts.now; roots = roots.now }) (record { nodes = nw.old; bases = bw.old; exts = xw.old; roots = tw.old }) (record { used = used.old; last = last.old; root = root.old; slot = slot.old; free = free.old }) (record { nodes = blob.old; bases = narrow.old; exts = wide.old; roots = ends.old }) file.old o (record { nodes = nw.new; bases = bw.new; exts = xw.new; roots = tw.new }) (record { used = used.new; last = last.new; root = root.new; slot = slot.new; free = free.new }) (record { nodes = blob.new; bases = narrow.new; exts = wide.new; roots = ends.new }) file.new) result length.old length.new }
 {
     let c = counts_of(n, b, x, r, leading);
     let told = lower_stored(
@@ -122,7 +122,7 @@ pub extern "C" fn cir_walk_stored(
     marks: &mut [u8],
     slots: &mut [u64],
 ) -> u64
-    ensures { Called (λ o. WalkStored (shape steps width auxes rap powers) (o0 ∷ o1 ∷ o2 ∷ []) file.now (record { nodes = nodes.entry.now; bases = bases.old; exts = exts.old; roots = roots.old }) (record { main = main.entry.now; aux = aux.now; challenges = challenges.now; alphas = alphas.now }) (record { evals = record { base = base.entry.now; ext = ext.old }; frame_rooms = record { main = mw.old; aux = aw.old; challenges = cw.old; alphas = pw.old }; eval_rooms = record { base = bw.old; ext = xw.old }; marks = marks.old; slots = slots.old }) o (record { nodes = nodes.exit.now; bases = bases.new; exts = exts.new; roots = roots.new }) (record { evals = record { base = base.exit.now; ext = ext.new }; frame_rooms = record { main = mw.new; aux = aw.new; challenges = cw.new; alphas = pw.new }; eval_rooms = record { base = bw.new; ext = xw.new }; marks = marks.new; slots = slots.new })) result }
+    ensures { Called (λ o. WalkStored (shape steps width auxes rap powers) (o0 ∷ o1 ∷ o2 ∷ []) file.now (record { nodes = nodes.old; bases = bases.old; exts = exts.old; roots = roots.old }) (record { main = main.now; aux = aux.now; challenges = challenges.now; alphas = alphas.now }) (record { evals = record { base = base.old; ext = ext.old }; frame_rooms = record { main = mw.old; aux = aw.old; challenges = cw.old; alphas = pw.old }; eval_rooms = record { base = bw.old; ext = xw.old }; marks = marks.old; slots = slots.old }) o (record { nodes = nodes.new; bases = bases.new; exts = exts.new; roots = roots.new }) (record { evals = record { base = base.new; ext = ext.new }; frame_rooms = record { main = mw.new; aux = aw.new; challenges = cw.new; alphas = pw.new }; eval_rooms = record { base = bw.new; ext = xw.new }; marks = marks.new; slots = slots.new })) result }
 {
     coded_outcome(walk_stored(
         shape_of(steps, width, auxes, rap, powers),

@@ -25,8 +25,8 @@ fn lower_words(
     out_exts: &mut [u64],
     out_roots: &mut [u32],
 ) -> Lowering
-    requires { LowerOk (record { counts = c; nodes = nodes.now; bases = bases.now; exts = exts.now; roots = roots.now }) (record { used = used.now; last = last_use.old; root = is_root.old; slot = slot_of.old; free = free.old }) }
-    ensures { WordsAnswer (record { counts = c; nodes = nodes.entry.now; bases = bases.now; exts = exts.now; roots = roots.now }) (record { used = used.entry.now; last = last_use.old; root = is_root.old; slot = slot_of.old; free = free.old }) (record { nodes = out_nodes.old; bases = out_bases.old; exts = out_exts.old; roots = out_roots.old }) result (record { used = used.exit.now; last = last_use.new; root = is_root.new; slot = slot_of.new; free = free.new }) (record { nodes = out_nodes.new; bases = out_bases.new; exts = out_exts.new; roots = out_roots.new }) }
+    requires { LowerOk (record { counts = c; nodes = nodes.now; bases = bases.now; exts = exts.now; roots = roots.now }) (record { used = used.old; last = last_use.old; root = is_root.old; slot = slot_of.old; free = free.old }) }
+    ensures { WordsAnswer (record { counts = c; nodes = nodes.now; bases = bases.now; exts = exts.now; roots = roots.now }) (record { used = used.old; last = last_use.old; root = is_root.old; slot = slot_of.old; free = free.old }) (record { nodes = out_nodes.old; bases = out_bases.old; exts = out_exts.old; roots = out_roots.old }) result (record { used = used.new; last = last_use.new; root = is_root.new; slot = slot_of.new; free = free.new }) (record { nodes = out_nodes.new; bases = out_bases.new; exts = out_exts.new; roots = out_roots.new }) }
 {
     let n = c.nodes;
     clear_lists(n, used, last_use, is_root, slot_of, free);
@@ -67,7 +67,7 @@ pub fn lower(
     out_exts: &mut [u64],
     out_roots: &mut [u32],
 ) -> Lowering
-    ensures { LowerAnswer (record { counts = c; nodes = nodes.entry.now; bases = bases.now; exts = exts.now; roots = roots.now }) (record { used = used.entry.now; last = last_use.old; root = is_root.old; slot = slot_of.old; free = free.old }) (record { nodes = out_nodes.old; bases = out_bases.old; exts = out_exts.old; roots = out_roots.old }) result (record { used = used.exit.now; last = last_use.new; root = is_root.new; slot = slot_of.new; free = free.new }) (record { nodes = out_nodes.new; bases = out_bases.new; exts = out_exts.new; roots = out_roots.new }) }
+    ensures { LowerAnswer (record { counts = c; nodes = nodes.now; bases = bases.now; exts = exts.now; roots = roots.now }) (record { used = used.old; last = last_use.old; root = is_root.old; slot = slot_of.old; free = free.old }) (record { nodes = out_nodes.old; bases = out_bases.old; exts = out_exts.old; roots = out_roots.old }) result (record { used = used.new; last = last_use.new; root = is_root.new; slot = slot_of.new; free = free.new }) (record { nodes = out_nodes.new; bases = out_bases.new; exts = out_exts.new; roots = out_roots.new }) }
 {
     if too_many_nodes(c) {
         return Lowering::Refused(Refusal::TooManyNodes);

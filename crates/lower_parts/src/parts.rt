@@ -93,7 +93,7 @@ pub fn write_blob(
     out_roots: &mut [u32],
 ) -> Progress
     requires { WriteOk c nodes.now bases.now exts.now roots.now emitted.now last_use.now is_root.now slot_of.old free.old count out_nodes.old out_bases.old out_exts.old out_roots.old }
-    ensures blob_written { BlobWritten c (lowered c nodes.entry.now roots.now bases.now exts.now (live c nodes.entry.now roots.now)) (record { nodes = out_nodes.old; bases = out_bases.old; exts = out_exts.old; roots = out_roots.old }) (record { nodes = out_nodes.new; bases = out_bases.new; exts = out_exts.new; roots = out_roots.new }) result.count result.pools.nexts }
+    ensures blob_written { BlobWritten c (lowered c nodes.now roots.now bases.now exts.now (live c nodes.now roots.now)) (record { nodes = out_nodes.old; bases = out_bases.old; exts = out_exts.old; roots = out_roots.old }) (record { nodes = out_nodes.new; bases = out_bases.new; exts = out_exts.new; roots = out_roots.new }) result.count result.pools.nexts }
     ensures slot_of_len { (length slot_of.new ≡ c.nodes) × (length free.new ≡ 2 * c.nodes) × (length result.pools.nexts ≡ 2) }
 {
     let place = scan_nodes(nodes, emitted, last_use, is_root, slot_of, free, out_nodes);
@@ -112,8 +112,8 @@ pub fn clear_lists(
     slot_of: &mut [u32],
     free: &mut [u32],
 )
-    requires { ListsLong n (record { used = used.now; last = last_use.old; root = is_root.old; slot = slot_of.old; free = free.old }) }
-    ensures { record { used = used.exit.now; last = last_use.new; root = is_root.new; slot = slot_of.new; free = free.new } ≡ emptied n (record { used = used.entry.now; last = last_use.old; root = is_root.old; slot = slot_of.old; free = free.old }) }
+    requires { ListsLong n (record { used = used.old; last = last_use.old; root = is_root.old; slot = slot_of.old; free = free.old }) }
+    ensures { record { used = used.new; last = last_use.new; root = is_root.new; slot = slot_of.new; free = free.new } ≡ emptied n (record { used = used.old; last = last_use.old; root = is_root.old; slot = slot_of.old; free = free.old }) }
 {
     clear(used, n);
     clear(last_use, n);

@@ -24,8 +24,8 @@ fn read_tables(
     exts: &mut [u64],
     roots: &mut [u32],
 )
-    requires { Long c (record { nodes = nodes.now; bases = bases.old; exts = exts.old; roots = roots.old }) × (4 * distance c ≤ length file.now) }
-    ensures { record { nodes = nodes.exit.now; bases = bases.new; exts = exts.new; roots = roots.new } ≡ put (tables_in c file.now) (record { nodes = nodes.entry.now; bases = bases.old; exts = exts.old; roots = roots.old }) }
+    requires { Long c (record { nodes = nodes.old; bases = bases.old; exts = exts.old; roots = roots.old }) × (4 * distance c ≤ length file.now) }
+    ensures { record { nodes = nodes.new; bases = bases.new; exts = exts.new; roots = roots.new } ≡ put (tables_in c file.now) (record { nodes = nodes.old; bases = bases.old; exts = exts.old; roots = roots.old }) }
 {
     let n = c.nodes as usize;
     let b = c.bases as usize;
@@ -43,7 +43,7 @@ pub fn read_stored(
     exts: &mut [u64],
     roots: &mut [u32],
 ) -> ReadStored
-    ensures { ReadAnswer file.now (record { nodes = nodes.entry.now; bases = bases.old; exts = exts.old; roots = roots.old }) result (record { nodes = nodes.exit.now; bases = bases.new; exts = exts.new; roots = roots.new }) }
+    ensures { ReadAnswer file.now (record { nodes = nodes.old; bases = bases.old; exts = exts.old; roots = roots.old }) result (record { nodes = nodes.new; bases = bases.new; exts = exts.new; roots = roots.new }) }
 {
     if bad_framing(file) {
         return ReadStored::Refused(Refusal::BadFraming);

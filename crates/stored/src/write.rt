@@ -26,7 +26,7 @@ fn write_body(
     out: &mut [u8],
 )
     requires { Long c (record { nodes = nodes.now; bases = bases.now; exts = exts.now; roots = roots.now }) × (4 * distance c ≤ length out.old) }
-    ensures { out.new ≡ sets out.old 0 (body (named c (record { nodes = nodes.entry.now; bases = bases.now; exts = exts.now; roots = roots.now }))) }
+    ensures { out.new ≡ sets out.old 0 (body (named c (record { nodes = nodes.now; bases = bases.now; exts = exts.now; roots = roots.now }))) }
 {
     let n = 4 * (c.nodes as usize);
     let b = c.bases as usize;
@@ -45,7 +45,7 @@ pub fn write_stored(
     roots: &[u32],
     out: &mut [u8],
 ) -> Stored
-    ensures { WriteAnswer c (record { nodes = nodes.entry.now; bases = bases.now; exts = exts.now; roots = roots.now }) out.old result out.new }
+    ensures { WriteAnswer c (record { nodes = nodes.now; bases = bases.now; exts = exts.now; roots = roots.now }) out.old result out.new }
 {
     if short_tables(c, nodes.len(), bases.len(), exts.len(), roots.len()) {
         return Stored::Refused(Refusal::ShortMemory);

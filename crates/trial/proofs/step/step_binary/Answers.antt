@@ -11,6 +11,7 @@ use Prim.Native.Nat.{◌*◌}
 use lib.Dec.{lit<}
 use lib.ListN.{get_or}
 use Rattle.trial.proofs.step.step_binary.Goals as goal
+use Rattle.trial.proofs.step.step_binary.Goals.{then-room-at-eq-BASE+else-room-to-eq-BASE, else-room-at-eq-BASE}
 
 pub overflow_mul-at : goal.overflow_mul-at
 overflow_mul-at c = let q = c.requires in omega (arith, q.2, q.3, q.4.long)
@@ -94,4 +95,4 @@ pub put_ext-requires : goal.put_ext-requires
 put_ext-requires c = c.requires.4.long
 
 pub returns : goal.returns
-returns c = let a = c.args in let d = c.if-dim-ne-DIM_EXT.false in let n : get_or a.room.now (4 * a.x) 0 ≡ 0 → get_or a.room.now (4 * a.y) 0 ≡ 0 → ⊥ = λ u v. ⊎_elim (λ w. w.2.left v) (λ w. w.left u) c.if-room-at-eq-BASE.branch in λ e. rw d (record { limbs = _; operands_ok = ext_ok a.room.now a.i a.tag a.x a.y 1 c.requires.1 c.requires.3 refl n; operates = binary_ext a.room.now a.tag a.x a.y c.requires.0 c.requires.1 n c.load.ensures c.load-2.ensures c.ext_binary-v.ensures; stored = c.put_ext.ensures })
+returns c = let a = c.args in let d = c.if-dim-ne-DIM_EXT.false in let n : get_or a.room.now (4 * a.x) 0 ≡ 0 → get_or a.room.now (4 * a.y) 0 ≡ 0 → ⊥ = λ u v. elim c.if-room-at-eq-BASE.branch [ then-room-at-eq-BASE+else-room-to-eq-BASE w ↦ w.if-room-to-eq-BASE.false v | else-room-at-eq-BASE w ↦ w.if-room-at-eq-BASE.false u ] in λ e. rw d (record { limbs = _; operands_ok = ext_ok a.room.now a.i a.tag a.x a.y 1 c.requires.1 c.requires.3 refl n; operates = binary_ext a.room.now a.tag a.x a.y c.requires.0 c.requires.1 n c.load.ensures c.load-2.ensures c.ext_binary-v.ensures; stored = c.put_ext.ensures })

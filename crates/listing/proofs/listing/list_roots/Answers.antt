@@ -1,0 +1,26 @@
+use Prim.Native.Nat.{◌-◌, ◌+◌, ◌*◌}
+use mathlib.Core.Path.{refl, ◌∙◌}
+use lib.ListN.{drop}
+use native.Mathlib.Omega.{arith}
+use Rattle.stored_parts.specs.Form.{words}
+use Rattle.listing.specs.Listing.{root_name}
+use Rattle.listing.proofs.ListLaws.{puts_none, line_words, line_step, puts_within, lines_done}
+use Rattle.listing.proofs.listing.list_roots.Goals as goal
+
+pub loop-i-init : goal.loop-i-init
+loop-i-init c = (omega arith, refl, puts_none _ _)
+
+pub put_text-start-requires : goal.put_text-start-requires
+put_text-start-requires c = omega (arith, c.loop-i.invariant.1, c.loop-i.invariant.2.small, c.loop-i-test.true, c.requires.1)
+
+pub put_words-end-requires : goal.put_words-end-requires
+put_words-end-requires c = (omega (arith, c.loop-i-test.true, c.requires.0), omega (arith, c.put_text-start.auto.out, c.put_text-start.ensures.small, c.loop-i.invariant.1, c.loop-i.invariant.2.small, c.loop-i-test.true, c.requires.1))
+
+pub loop-i-preserved : goal.loop-i-preserved
+loop-i-preserved c = let a = c.args in let l = c.loop-i in let t = c.loop-i-test.true in (omega (arith, t), c.put_words-end.auto.out ∙ c.put_text-start.auto.out ∙ l.invariant.1, puts_within (line_step root_name 1 l.i l.i (words 4 a.count (drop a.from a.file.now)) (words 4 1 (drop (a.from + 4 * l.i) a.file.now)) 5 (21 * 1) (omega arith) (line_words 1 l.i a.count a.file.now a.from (a.from + 4 * l.i) (omega (arith, t)) (omega arith)) l.invariant.2 c.put_text-start.ensures c.put_words-end.ensures) (omega arith))
+
+pub shape_of-out : goal.shape_of-out
+shape_of-out c = c.loop-i.invariant.1
+
+pub returns : goal.returns
+returns c = let a = c.args in let l = c.loop-i in lines_done root_name 1 26 a.count l.i (words 4 a.count (drop a.from a.file.now)) (omega (arith, c.loop-i-test.false, l.invariant.0)) l.invariant.2
