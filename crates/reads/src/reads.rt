@@ -98,7 +98,7 @@ fn weight(mark: u8) -> usize
 }
 
 fn count_marks(map: &[u8], limit: usize) -> usize
-    requires { limit ≤ length map.old }
+    requires { limit ≤ length map.now }
     ensures { result ≡ length (all_below (is_marked map.now) limit) }
 {
     let mut count: usize = 0;
@@ -122,7 +122,7 @@ fn put_marked(out: &mut [u32], at: usize, column: usize, mark: u8)
 
 // The map is walked upwards, so the columns ascend.
 fn put_columns(out: &mut [u32], map: &[u8], limit: usize)
-    requires { (limit ≤ length map.old) × (limit ≤ 131072) × (length (all_below (is_marked map.old) limit) ≤ length out.old) }
+    requires { (limit ≤ length map.now) × (limit ≤ 131072) × (length (all_below (is_marked map.now) limit) ≤ length out.old) }
     ensures { out.new ≡ sets out.old 0 (all_below (is_marked map.now) limit) }
 {
     let mut at: usize = 0;

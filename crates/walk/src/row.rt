@@ -81,7 +81,7 @@ fn node_value(
     alphas: &[u64],
     slots: &[u64],
 ) -> Value
-    requires { NodeLegal c s (instr op a b res) × LentLong c s t.rows t.row (lent bases.now exts.now main.now aux.now challenges.now alphas.now offset.limbs) × (slot_words c ≤ length slots.old) }
+    requires { NodeLegal c s (instr op a b res) × LentLong c s t.rows t.row (lent bases.now exts.now main.now aux.now challenges.now alphas.now offset.limbs) × (slot_words c ≤ length slots.now) }
     ensures { NodeGives c s t.rows t.row (lent bases.now exts.now main.now aux.now challenges.now alphas.now offset.limbs) slots.now (instr op a b res) result.class result.limbs.limbs }
 {
     if op < OP_ADD {

@@ -11,7 +11,7 @@ pub slice_bounds-walk_words-end-4 : goal.slice_bounds-walk_words-end-4
 slice_bounds-walk_words-end-4 c = let a = c.args in front_long _ _ (rw (sets_long a.xw.now 0 (words_in 8 a.ext.now) c.unpack64-2.ensures) c.requires.ext_fits)
 
 pub walk_words-requires : goal.walk_words-requires
-walk_words-requires c = (packs c.args.base.now c.unpack64.new.1.0, packs c.args.ext.now c.unpack64-2.new.1.0)
+walk_words-requires c = (packs c.args.base.now c.unpack64.new.to, packs c.args.ext.now c.unpack64-2.new.to)
 
 pub shape_of-base : goal.shape_of-base
 shape_of-base c = c.walk_words.auto.base
