@@ -28,4 +28,4 @@ pub shape_of-ends : goal.shape_of-ends
 shape_of-ends c = c.lower-told.auto.out_roots
 
 pub returns : goal.returns
-returns c = record { outcome = c.lower-told.result; promised = rw c.counts_of-c.ensures at c.lower-told.ensures; answered = c.coded_lowering.ensures.value; counted = c.coded_lowering.ensures.count_after.0; base_slots = c.coded_lowering.ensures.count_after.1.0; ext_slots = c.coded_lowering.ensures.count_after.1.1 }
+returns c = record { outcome = c.lower-told.result; promised = rw c.counts_of-c.ensures at c.lower-told.ensures; answered = c.coded_lowering.ensures.value; counted = c.coded_lowering.ensures.count_after; base_slots = c.coded_lowering.ensures.bs_after; ext_slots = c.coded_lowering.ensures.xs_after }
