@@ -1,16 +1,16 @@
 -- Laws of the blob check's tests, by number.
 -- Assumes nothing.
-use mathlib.Core.Bool.{Bool, true, false, cond, not, ◌&&◌}
+use mathlib.Core.Bool.{Bool, false}
 use mathlib.Core.List.{List, [], ◌∷◌}
-use mathlib.Core.Option.{Option, none, some}
-use mathlib.Core.Path.{◌≡◌, refl, ap, ◌∙◌}
-use Prim.Native.Nat.{ℕ, zero, suc, ◌+◌, ◌<◌, ◌≤◌}
+use mathlib.Core.Option.{none}
+use mathlib.Core.Path.{◌≡◌, refl}
+use Prim.Native.Nat.{ℕ, zero, suc, ◌<◌, ◌≤◌}
 use native.Mathlib.Omega.{arith}
 use lib.ListN.{length}
 use Rattle.laws.specs.Options.{at}
 use Rattle.ir.specs.declared.frame.Shape.{Shape}
 use Rattle.blob_rules.specs.declared.blob.BlobCounts.{BlobCounts}
-use Rattle.blob_rules.specs.Blob.{Instr, kind_of, payload_of, Form, tags, Kind, kinds}
+use Rattle.blob_rules.specs.Blob.{Instr, kind_of, payload_of, tags, kinds}
 use Rattle.blob_rules.specs.Check.{Filled, kind_ok, operand_ok, form_ok, node_ok}
 
 -- past a list's end there is nothing

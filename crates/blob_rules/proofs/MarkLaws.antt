@@ -4,26 +4,26 @@ use mathlib.Core.Bool.{Bool, true, false, cond, not, ◌&&◌}
 use mathlib.Core.List.{List, [], ◌∷◌, ◌++◌}
 use mathlib.Core.Option.{Option, none, some}
 use mathlib.Core.Path.{◌≡◌, refl, sym, ap, ap₂, ◌∙◌}
-use Prim.Native.Nat.{ℕ, zero, suc, ◌+◌, ◌-◌, ◌<◌, ◌≤◌}
+use Prim.Native.Nat.{ℕ, suc, ◌+◌, ◌-◌, ◌<◌, ◌≤◌}
 use native.Mathlib.Numerals.{add-one}
 use native.Mathlib.Omega.{arith}
 use lib.Dec.{eqb, ltb}
 use lib.ListN.{length, get_or, set, drop, replicate, length-set, length-append, length-drop, length-replicate, get_or-replicate, replicate-append-replicate, get_or-append}
 use lib.Seq.{get_or-set_same, get_or-set_other, drop-set-lt, drop-cons, drop_at, set_at, append_snoc}
-use borrow.Author.Tests.{eqb-true, eqb-false, ltb-true, ltb-false, lt-ltb}
+use borrow.Author.Tests.{eqb-true, eqb-false, ltb-true}
 use Rattle.laws.specs.Folds.{lowest}
 use Rattle.laws.specs.Maps.{upd}
 use Rattle.laws.specs.Options.{at}
 use Rattle.laws.proofs.Cases.{by_test}
 use Rattle.laws.proofs.Folds.{none_some, lowest_start, lowest_on, lowest_at, lowest_stays}
 use Rattle.laws.proofs.Maps.{upd_here, upd_other}
-use Rattle.laws.proofs.Tests.{clash, and_left, and_right, not_not}
+use Rattle.laws.proofs.Tests.{clash, and_right, not_not}
 use Rattle.ir.specs.declared.frame.Shape.{Shape}
 use Rattle.ir.specs.declared.refusal.Place.TheVariants.{At, Nowhere}
 use Rattle.ir.specs.Words.{main_of}
 use Rattle.blob_rules.specs.declared.blob.BlobCounts.{BlobCounts}
 use Rattle.blob_rules.specs.Blob.{Instr, instr_at, base_slots_of, ext_slots_of, is_ext, slot_of, kind_of, payload_of, size_of, ext_table, Form, entry, cell, offset, binary, negation, embedding, tags, Kind, base_slot, ext_slot, of, the_offset, kinds}
-use Rattle.blob_rules.specs.Check.{Filled, slot_in, slot_of_class, filled_in, root_ok, mark, filled_after, cell_ok, kind_ok, operand_ok, form_ok, node_ok, slot_count, cleared}
+use Rattle.blob_rules.specs.Check.{Filled, slot_in, slot_of_class, filled_in, mark, filled_after, cell_ok, kind_ok, operand_ok, form_ok, node_ok, slot_count, cleared}
 use Rattle.blob_rules.specs.Marks.{marked, Alike, mark_at, NodesChecked}
 
 -- ---- tests look only at slots that there are

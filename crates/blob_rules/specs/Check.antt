@@ -9,9 +9,9 @@ use Rattle.ir.specs.declared.frame.Shape.{Shape}
 use Rattle.ir.specs.declared.refusal.Outcome.{Outcome}
 use Rattle.ir.specs.Words.{main_of, offset_of}
 use Rattle.ir.specs.Shape.{over_shape}
-use Rattle.ir.specs.Refusals.{Said, Row, row, row_at, first, gives, said_of_outcome}
+use Rattle.ir.specs.Refusals.{Row, row, row_at, first, gives, said_of_outcome}
 use Rattle.blob_rules.specs.declared.blob.BlobCounts.{BlobCounts}
-use Rattle.blob_rules.specs.Blob.{Instr, instr_at, Blob, base_slots_of, ext_slots_of, num_base_of, is_ext, slot_of, kind_of, payload_of, Table, size_of, ext_table, Form, entry, cell, offset, binary, negation, embedding, tags, Kind, base_slot, ext_slot, of, the_offset, kinds}
+use Rattle.blob_rules.specs.Blob.{Instr, instr_at, Blob, base_slots_of, ext_slots_of, num_base_of, is_ext, slot_of, kind_of, payload_of, size_of, ext_table, Form, entry, cell, offset, binary, negation, embedding, tags, Kind, base_slot, ext_slot, of, the_offset, kinds}
 
 -- which slots of each class were filled
 pub record Filled : Type 0 where

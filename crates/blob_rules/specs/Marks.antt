@@ -1,7 +1,7 @@
 -- The bytes that the check borrows: one for each base slot, then one for each extension slot. For inner functions: no
 -- public promise cites it.
 -- Assumes nothing.
-use Rattle.std.specs.Prelude.{Bool, cond, not, List, [], ◌∷◌, ◌≡◌, ℕ, ◌+◌, ◌<◌, eqb, length, get_or, drop}
+use Rattle.std.specs.Prelude.{cond, not, List, [], ◌∷◌, ◌≡◌, ℕ, ◌+◌, ◌<◌, eqb, length, get_or, drop}
 use Rattle.std.proofs.Math.Option.{none}
 use Rattle.laws.specs.Folds.{lowest}
 use Rattle.ir.specs.declared.frame.Shape.{Shape}

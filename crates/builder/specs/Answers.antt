@@ -1,7 +1,6 @@
 -- What a builder call says, and how every call that makes a node ends, over any lent words.
 -- Assumes nothing.
-use Rattle.std.specs.Prelude.{Bool, true, false, cond, ◌||◌, List, [], ◌∷◌, ◌++◌, ◌≡◌, ℕ, ◌/◌, ltb, length}
-use Rattle.std.proofs.Math.Option.{Option, none, some}
+use Rattle.std.specs.Prelude.{Bool, cond, ◌||◌, List, [], ◌∷◌, ◌++◌, ◌≡◌, ℕ, ◌/◌, ltb, length}
 use Rattle.laws.specs.Options.{missing}
 use Rattle.ir.specs.declared.refusal.Refusal.TheVariants.{NodesFull}
 use Rattle.ir.specs.Refusals.{Said, Row, row, first, any_holds, gives, said_of, found_at}

@@ -1,6 +1,6 @@
 -- The roots, and what is handed on at the end, over any lent words.
 -- Assumes nothing.
-use Rattle.std.specs.Prelude.{Bool, cond, ◌||◌, List, [], ◌∷◌, ◌≡◌, ℕ, zero, suc, ◌+◌, ◌-◌, ◌/◌, max, leb, ltb, length, set}
+use Rattle.std.specs.Prelude.{cond, ◌||◌, List, [], ◌∷◌, ◌≡◌, ℕ, zero, suc, ◌+◌, ◌-◌, ◌/◌, max, leb, ltb, length, set}
 use Rattle.ir.specs.declared.program.Counts.{Counts}
 use Rattle.ir.specs.Refusals.{Said, Row, row, first, any_holds, gives, said_of}
 use Rattle.builder.specs.declared.ir_builder.Emitted.{Emitted}

@@ -13,11 +13,9 @@ use Rattle.ir.specs.declared.refusal.Refusal.TheVariants.{ShortMemory}
 use Rattle.stored_parts.specs.Form.{spread}
 use Rattle.byte_words.specs.Words.{whole}
 use Rattle.gaps.specs.declared.gaps.Gaps.{Gaps}
-use Rattle.gaps.specs.declared.gaps.Gaps.TheVariants as Gaps
 use Rattle.builder.specs.declared.ir_builder.Answer.{Answer}
 use Rattle.builder.specs.declared.ir_builder.Answer.TheVariants.{Refused}
 use Rattle.builder.specs.declared.ir_builder.Emitted.{Emitted}
-use Rattle.builder.specs.declared.ir_builder.Emitted.TheVariants as Emitted
 use Rattle.builder.specs.declared.ir_builder.IrBuilder.{IrBuilder}
 use Rattle.builder.specs.Answers.{said_of_answer, Built, Gives}
 use Rattle.builder.specs.Consts.{Interned, Interns}

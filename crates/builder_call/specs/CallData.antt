@@ -1,7 +1,6 @@
 -- A call of the builder as data.
 -- Assumes nothing.
 use Rattle.builder_call.specs.declared.call.Call.{Call}
-use Rattle.builder_call.specs.declared.call.Call.TheVariants as Call
 use Rattle.node_table.specs.Hashing.{Start}
 use Rattle.node_table.specs.Table.{Table}
 use Rattle.builder.specs.Answers.{Built}

@@ -12,13 +12,12 @@ use Rattle.ir.specs.Words.{Node, node_at}
 use Rattle.node_table.specs.Words.{view}
 use Rattle.node_table.specs.Hashing.{Start}
 use Rattle.node_table.specs.Table.{Table, table, Reached}
-use Rattle.built.specs.Draft.{Draft, Call, fresh_draft}
+use Rattle.built.specs.Draft.{Draft, fresh_draft}
 use Rattle.built.specs.Memory.{Memory, room_of, base_at, ext_at, base_room, ext_room}
-use Rattle.built.specs.History.{answers, after, replies, drafted}
+use Rattle.built.specs.History.{after, drafted}
 use Rattle.built.specs.Growth.{Growth, grown, Stage, GoesOn, TablesMayGrow}
 use Rattle.built.proofs.NodeLaws.{Nodes}
 use Rattle.built.proofs.ConstantLaws.{Held}
-use Rattle.built.proofs.RootLaws.{Roots}
 use Rattle.built.proofs.StepLaws.{Holds, holds_stands}
 use Rattle.built.proofs.FormedLaws.{Sane, fresh_sane}
 use Rattle.built.proofs.Theorems.{ran, history, drafted_sane, well_made}

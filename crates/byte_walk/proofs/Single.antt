@@ -11,7 +11,6 @@ use Rattle.values.specs.Frame.{Lent}
 use Rattle.blob_rules.specs.Blob.{Blob}
 use Rattle.walk.proofs.Single.{walk_single}
 use Rattle.stored.specs.declared.read.ReadStored.{ReadStored}
-use Rattle.stored.specs.declared.read.ReadStored.TheVariants as ReadStored
 use Rattle.stored_parts.specs.Form.{Tables}
 use Rattle.stored.proofs.Single.{read_stored_single}
 use Rattle.byte_words.specs.Reading.{blob_in}

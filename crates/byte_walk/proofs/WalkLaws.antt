@@ -3,9 +3,8 @@
 use mathlib.Core.Bool.{Bool, true, false, cond, ◌||◌}
 use mathlib.Core.List.{List, ◌++◌}
 use mathlib.Core.Path.{◌≡◌, refl, sym, ap, subst, ◌∙◌}
-use Prim.Native.Nat.{ℕ, ◌+◌, ◌*◌, ◌/◌, ◌≤◌}
+use Prim.Native.Nat.{ℕ, ◌+◌, ◌*◌, ◌≤◌}
 use native.Mathlib.Omega.{arith}
-use lib.Dec.{ltb}
 use lib.ListN.{length, take, drop, length-take}
 use lib.Seq.{sets, sets-eq}
 use borrow.Author.Tests.{ltb-false, ne_eqb}
@@ -15,7 +14,6 @@ use Rattle.ir.specs.declared.frame.Shape.{Shape}
 use Rattle.ir.specs.declared.refusal.Refusal.{Refusal}
 use Rattle.ir.specs.declared.refusal.Refusal.TheVariants.{OverLimit, ShortMemory}
 use Rattle.ir.specs.declared.refusal.Outcome.{Outcome}
-use Rattle.ir.specs.declared.refusal.Outcome.TheVariants as Outcome
 use Rattle.ir.specs.Refusals.{said_of}
 use Rattle.ir.specs.Shape.{over_shape}
 use Rattle.ir.proofs.RefusalLaws.{refusal_number}
@@ -24,13 +22,12 @@ use Rattle.blob_rules.specs.declared.blob.BlobCounts.{BlobCounts}
 use Rattle.blob_rules.specs.Blob.{Blob}
 use Rattle.walk.specs.Walk.{WalkAnswer}
 use Rattle.stored.specs.declared.read.ReadStored.{ReadStored}
-use Rattle.stored.specs.declared.read.ReadStored.TheVariants as ReadStored
 use Rattle.stored_parts.specs.Form.{Tables, spread}
 use Rattle.stored.specs.Answer.{ReadAnswer}
 use Rattle.stored_parts.proofs.WordLaws.{sets_long, words_long}
 use Rattle.byte_words.specs.Words.{whole, words_in}
 use Rattle.byte_words.specs.Reading.{blob_in}
-use Rattle.byte_walk.specs.Walking.{Frame, Evals, frame_words, eval_words, put_frame, put_evals, tight, short_frame_rooms, short_eval_rooms, FrameFits, EvalsFit, lent_in, Memory, short_rooms, Packed, Walked, WalkBytes, WalkStored}
+use Rattle.byte_walk.specs.Walking.{Frame, Evals, frame_words, eval_words, put_frame, tight, short_frame_rooms, short_eval_rooms, FrameFits, EvalsFit, lent_in, Memory, short_rooms, Packed, Walked, WalkBytes, WalkStored}
 use Rattle.byte_words.proofs.WordLaws.{unpacked}
 use Rattle.byte_words.proofs.ReadingLaws.{read_why, read_counts, read_both}
 

@@ -7,7 +7,6 @@ use Rattle.ir.specs.declared.frame.Shape.{Shape}
 use Rattle.ir.specs.declared.refusal.Refusal.{Refusal}
 use Rattle.ir.specs.declared.refusal.Refusal.TheVariants.{OverLimit, ShortMemory}
 use Rattle.ir.specs.declared.refusal.Outcome.{Outcome}
-use Rattle.ir.specs.declared.refusal.Outcome.TheVariants as Outcome
 use Rattle.ir.specs.Refusals.{said_of_outcome}
 use Rattle.ir.specs.Shape.{over_shape}
 use Rattle.values.specs.Frame.{Lent, lent}
@@ -15,7 +14,6 @@ use Rattle.blob_rules.specs.declared.blob.BlobCounts.{BlobCounts}
 use Rattle.blob_rules.specs.Blob.{Blob}
 use Rattle.walk.specs.Walk.{WalkAnswer}
 use Rattle.stored.specs.declared.read.ReadStored.{ReadStored}
-use Rattle.stored.specs.declared.read.ReadStored.TheVariants as ReadStored
 use Rattle.stored_parts.specs.Form.{Tables, spread}
 use Rattle.stored.specs.Answer.{ReadAnswer}
 use Rattle.byte_words.specs.Words.{whole, words_in}

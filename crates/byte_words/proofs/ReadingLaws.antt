@@ -10,8 +10,6 @@ use Rattle.laws.proofs.Cases.{by_test}
 use Rattle.ir.specs.declared.refusal.Refusal.{Refusal}
 use Rattle.blob_rules.specs.declared.blob.BlobCounts.{BlobCounts}
 use Rattle.stored.specs.declared.read.ReadStored.{ReadStored}
-use Rattle.stored.specs.declared.read.ReadStored.TheVariants as ReadStored
-use Rattle.stored.specs.declared.write.Stored.TheVariants as Stored
 use Rattle.stored_parts.specs.Form.{Tables, counts_in, tables_in}
 use Rattle.stored.specs.Answer.{put, read_said, ReadAnswer}
 use Rattle.stored_parts.proofs.WordLaws.{sets_long}

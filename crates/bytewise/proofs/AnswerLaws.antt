@@ -12,19 +12,14 @@ use Rattle.laws.proofs.Tests.{or_left, or_right, clash}
 use Rattle.ir.specs.declared.program.Counts.{Counts}
 use Rattle.ir.specs.declared.frame.Shape.{Shape}
 use Rattle.ir.specs.declared.refusal.Refusal.{Refusal}
-use Rattle.ir.specs.declared.refusal.Refusal.TheVariants.{ShortMemory}
 use Rattle.ir.specs.declared.refusal.Outcome.{Outcome}
-use Rattle.ir.specs.declared.refusal.Outcome.TheVariants as Outcome
 use Rattle.ir.specs.Program.{Program, too_many_nodes, too_many_roots}
 use Rattle.blob_rules.specs.declared.blob.BlobCounts.{BlobCounts}
 use Rattle.blob_rules.specs.Check.{CheckAnswer}
 use Rattle.lower_parts.specs.declared.parts.Lowering.{Lowering}
-use Rattle.lower_parts.specs.declared.parts.Lowering.TheVariants as Lowering
 use Rattle.lower_parts.specs.Answer.{Lists, Output, LowerAnswer}
 use Rattle.stored.specs.declared.read.ReadStored.{ReadStored}
-use Rattle.stored.specs.declared.read.ReadStored.TheVariants as ReadStored
 use Rattle.stored.specs.declared.write.Stored.{Stored}
-use Rattle.stored.specs.declared.write.Stored.TheVariants as Stored
 use Rattle.stored_parts.specs.Form.{Tables}
 use Rattle.stored.specs.Answer.{put, ReadAnswer, WriteAnswer}
 use Rattle.byte_words.specs.Words.{whole}

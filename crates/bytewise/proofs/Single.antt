@@ -10,11 +10,9 @@ use Rattle.ir.specs.declared.refusal.Outcome.{Outcome}
 use Rattle.ir.specs.Program.{Program}
 use Rattle.device.proofs.Single.{check_blob_single}
 use Rattle.lower_parts.specs.declared.parts.Lowering.{Lowering}
-use Rattle.lower_parts.specs.declared.parts.Lowering.TheVariants as Lowering
 use Rattle.lower_parts.specs.Answer.{Lists, Output}
 use Rattle.lower.proofs.Single.{lower_single}
 use Rattle.stored.specs.declared.read.ReadStored.{ReadStored}
-use Rattle.stored.specs.declared.read.ReadStored.TheVariants as ReadStored
 use Rattle.stored.specs.declared.write.Stored.{Stored}
 use Rattle.stored_parts.specs.Form.{Tables}
 use Rattle.stored.specs.Answer.{WriteAnswer}

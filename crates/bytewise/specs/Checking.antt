@@ -4,11 +4,9 @@ use Rattle.std.specs.Prelude.{List, ◌≡◌, ℕ}
 use Rattle.ir.specs.declared.frame.Shape.{Shape}
 use Rattle.ir.specs.declared.refusal.Refusal.{Refusal}
 use Rattle.ir.specs.declared.refusal.Outcome.{Outcome}
-use Rattle.ir.specs.declared.refusal.Outcome.TheVariants as Outcome
 use Rattle.blob_rules.specs.declared.blob.BlobCounts.{BlobCounts}
 use Rattle.blob_rules.specs.Check.{CheckAnswer}
 use Rattle.stored.specs.declared.read.ReadStored.{ReadStored}
-use Rattle.stored.specs.declared.read.ReadStored.TheVariants as ReadStored
 use Rattle.stored_parts.specs.Form.{Tables}
 use Rattle.stored.specs.Answer.{ReadAnswer}
 use Rattle.byte_words.specs.Reading.{blob_in}

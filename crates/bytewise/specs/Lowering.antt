@@ -7,10 +7,8 @@ use Rattle.ir.specs.declared.refusal.Refusal.TheVariants.{ShortMemory, TooManyNo
 use Rattle.ir.specs.Program.{Program, too_many_nodes, too_many_roots}
 use Rattle.blob_rules.specs.declared.blob.BlobCounts.{BlobCounts}
 use Rattle.lower_parts.specs.declared.parts.Lowering.{Lowering}
-use Rattle.lower_parts.specs.declared.parts.Lowering.TheVariants as Lowering
 use Rattle.lower_parts.specs.Answer.{Lists, Output, LowerAnswer}
 use Rattle.stored.specs.declared.write.Stored.{Stored}
-use Rattle.stored.specs.declared.write.Stored.TheVariants as Stored
 use Rattle.stored_parts.specs.Form.{Tables}
 use Rattle.stored.specs.Answer.{put, WriteAnswer}
 use Rattle.byte_words.specs.Words.{whole, words_in}

@@ -3,11 +3,8 @@
 use Rattle.std.specs.Prelude.{Bool, false, cond, ◌&&◌, List, ℕ, zero, suc, ◌+◌, ◌*◌, ◌%◌, min, eqb, leb, get_or, set}
 use Rattle.field.specs.Base.{p}
 use Rattle.ir.specs.Program.{most}
-use Rattle.ir.specs.Refusals.{first}
 use Rattle.node_table.specs.declared.table.Put.{Put}
 use Rattle.node_table.specs.declared.table.Put.TheVariants.{At, Full}
-use Rattle.node_table.specs.Words.{node}
-use Rattle.node_table.specs.Table.{table}
 
 -- from i on, the first of `left` numbers that passes the test, else the one after them
 unfoldable pub scan : (ℕ → Bool) → ℕ → ℕ → ℕ

@@ -1,14 +1,14 @@
 -- From the searches to what the check says and leaves.
 -- Assumes nothing.
-use mathlib.Core.Bool.{Bool, true, false, cond, not, ◌||◌}
-use mathlib.Core.List.{List, [], ◌∷◌}
-use mathlib.Core.Option.{Option, none, some}
-use mathlib.Core.Path.{◌≡◌, refl, sym, ap, ap₂, ◌∙◌}
-use Prim.Native.Nat.{ℕ, ◌+◌, ◌*◌, ◌<◌, ◌≤◌}
+use mathlib.Core.Bool.{Bool, true, false, not, ◌||◌}
+use mathlib.Core.List.{List, []}
+use mathlib.Core.Option.{none, some}
+use mathlib.Core.Path.{◌≡◌, sym, ap, ◌∙◌}
+use Prim.Native.Nat.{ℕ, ◌*◌, ◌≤◌}
 use lib.Dec.{ltb}
 use lib.ListN.{length, get_or, drop}
 use borrow.Author.Tests.{ltb-false}
-use Rattle.laws.specs.Folds.{lowest, or_else}
+use Rattle.laws.specs.Folds.{lowest}
 use Rattle.laws.proofs.Folds.{lowest_same}
 use Rattle.laws.proofs.Tests.{or_left, or_right}
 use Rattle.ir.specs.declared.frame.Shape.{Shape}
@@ -18,11 +18,11 @@ use Rattle.ir.specs.declared.refusal.Refusal.TheVariants.{IllegalBlob, OverLimit
 use Rattle.ir.specs.declared.refusal.Place.{Place}
 use Rattle.ir.specs.declared.refusal.Place.TheVariants.{At, Nowhere}
 use Rattle.ir.specs.Shape.{over_shape}
-use Rattle.ir.specs.Refusals.{Said, row_at, first, gives, said_of_outcome, place_of}
+use Rattle.ir.specs.Refusals.{first, gives, said_of_outcome, place_of}
 use Rattle.blob_rules.specs.declared.blob.BlobCounts.{BlobCounts}
-use Rattle.blob_rules.specs.Blob.{Blob, instr_at, is_ext, slot_of, tags, kinds}
-use Rattle.blob_rules.specs.Check.{Filled, node_ok, root_ok, filled_after, illegal, ext_root, legal_rows, slot_count, short_check, cleared, CheckAnswer}
-use Rattle.blob_rules.specs.Marks.{marked, Alike, NodesChecked, root_rows, Searched, LegalChecked}
+use Rattle.blob_rules.specs.Blob.{Blob, is_ext, slot_of}
+use Rattle.blob_rules.specs.Check.{root_ok, filled_after, illegal, slot_count, short_check, cleared, CheckAnswer}
+use Rattle.blob_rules.specs.Marks.{marked, NodesChecked, root_rows, Searched, LegalChecked}
 use Rattle.blob_rules.proofs.MarkLaws.{bad_node, alike_filled, cleared_again, cleared_rest}
 
 -- ---- the search

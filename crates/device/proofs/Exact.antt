@@ -4,17 +4,17 @@
 use mathlib.Core.Bool.{Bool, true, false, cond, not, ◌&&◌, ◌||◌}
 use mathlib.Core.List.{List}
 use mathlib.Core.Option.{Option, none, some, some-injective}
-use mathlib.Core.Path.{◌≡◌, refl, sym, ap, ap₂, ◌∙◌}
-use Prim.Native.Nat.{ℕ, zero, suc, ◌+◌, ◌<◌}
+use mathlib.Core.Path.{◌≡◌, refl, sym, ap, ◌∙◌}
+use Prim.Native.Nat.{ℕ, zero, suc}
 use native.Mathlib.Omega.{arith}
-use lib.Dec.{eqb, leb, ltb}
+use lib.Dec.{eqb, ltb}
 use lib.ListN.{get_or}
 use borrow.Author.Tests.{eqb-true, le-ltb}
 use Rattle.laws.specs.Folds.{lowest, or_else}
 use Rattle.laws.specs.Maps.{upd}
 use Rattle.laws.specs.Options.{after, on1, on2, only_if, missing, at}
 use Rattle.laws.proofs.Cases.{by_test}
-use Rattle.laws.proofs.Folds.{none_some, or_none_left, or_none_right, lowest_none, none_lowest, lowest_same}
+use Rattle.laws.proofs.Folds.{or_none_left, or_none_right, lowest_none, none_lowest, lowest_same}
 use Rattle.laws.proofs.Options.{missing_only, present, only_some, after_some, missing_on1, stop_only, stop_twice, stop_on1, stop_on2}
 use Rattle.laws.proofs.Tests.{clash, and_left, and_right, or_right}
 use Rattle.extension.specs.Tower.{Tower}
@@ -22,8 +22,8 @@ use Rattle.ir.specs.declared.frame.Shape.{Shape}
 use Rattle.ir.specs.Words.{main_of, offset_of, row_of}
 use Rattle.values.specs.Values.{Value, base, ext, to_ext}
 use Rattle.blob_rules.specs.declared.blob.BlobCounts.{BlobCounts}
-use Rattle.blob_rules.specs.Blob.{Instr, instr_at, base_slots_of, ext_slots_of, num_base_of, is_ext, slot_of, kind_of, payload_of, Table, base_consts, ext_consts, challenges, alphas, size_of, ext_table, Binary, Form, entry, cell, offset, binary, negation, embedding, Kind, base_slot, ext_slot, of, the_offset}
-use Rattle.device.specs.StepRule.{Contents, Slots, content_of, held_by, only_base, operand, base_operand, ext_operand, op₀, op₁, cell_of, value_by, value_of, put, step, slots_after, root_held, root_value, stops_at}
+use Rattle.blob_rules.specs.Blob.{Instr, instr_at, base_slots_of, ext_slots_of, num_base_of, is_ext, slot_of, kind_of, payload_of, base_consts, ext_consts, challenges, alphas, size_of, Form, entry, cell, offset, binary, negation, embedding, Kind, base_slot, ext_slot, of, the_offset}
+use Rattle.device.specs.StepRule.{Contents, Slots, content_of, held_by, only_base, operand, base_operand, ext_operand, op₀, op₁, value_by, value_of, put, step, slots_after, root_held, root_value, stops_at}
 use Rattle.blob_rules.specs.Check.{Filled, slot_in, slot_of_class, filled_in, kind_ok, operand_ok, cell_ok, form_ok, node_ok, mark, filled_after, root_ok, illegal, ext_root}
 
 -- ---- of tests alone

@@ -1,16 +1,16 @@
 -- Demand 3, first half: what the blob check says is what the step rule says.
 -- Assumes nothing.
 use mathlib.Core.Bool.{Bool, true, false, not, ◌&&◌, ◌||◌}
-use mathlib.Core.List.{List, [], ◌∷◌}
+use mathlib.Core.List.{[], ◌∷◌}
 use mathlib.Core.Option.{Option, none, some}
-use mathlib.Core.Path.{◌≡◌, refl, sym, ap, ◌∙◌}
+use mathlib.Core.Path.{◌≡◌, refl, ap, ◌∙◌}
 use Prim.Native.Nat.{ℕ, ◌<◌, ◌≤◌}
 use native.Mathlib.Nat.{le_refl}
 use native.Mathlib.Omega.{arith}
 use lib.Dec.{eqb}
 use lib.ListN.{length}
 use borrow.Author.Tests.{eqb-true, eqb-false}
-use Rattle.laws.specs.Folds.{lowest, or_else}
+use Rattle.laws.specs.Folds.{lowest}
 use Rattle.laws.specs.Options.{at}
 use Rattle.laws.proofs.Cases.{by_test}
 use Rattle.laws.proofs.Folds.{lowest_none}
@@ -18,7 +18,7 @@ use Rattle.laws.proofs.Tests.{clash, or_left, or_right}
 use Rattle.extension.specs.Tower.{Tower}
 use Rattle.ir.specs.declared.frame.Shape.{Shape}
 use Rattle.ir.specs.Shape.{over_shape}
-use Rattle.ir.specs.Refusals.{Said, Row, row_at, found, first, gives}
+use Rattle.ir.specs.Refusals.{Said, row_at, found, first, gives}
 use Rattle.ir.proofs.RefusalLaws.{done_quiet, not_found}
 use Rattle.blob_rules.specs.declared.blob.BlobCounts.{BlobCounts}
 use Rattle.blob_rules.specs.Blob.{Blob, Instr, instr_at, num_base_of, is_ext, kind_of, tags, kinds}

@@ -18,7 +18,7 @@
 -- The rule says what happens, not how to test for it beforehand: the blob check is defined apart, in Check.antt, and
 -- `check_is_exact` of proofs/Theorem.antt says that the two agree. K is any tower; u is what constants, cells and uniforms hold.
 -- Assumes nothing.
-use Rattle.std.specs.Prelude.{Bool, true, false, cond, not, ◌&&◌, List, ℕ, zero, suc, ◌%◌, eqb, ltb, get_or}
+use Rattle.std.specs.Prelude.{cond, not, ◌&&◌, List, ℕ, zero, suc, eqb, ltb, get_or}
 use Rattle.std.proofs.Math.Option.{Option, none, some}
 use Rattle.laws.specs.Folds.{lowest, or_else}
 use Rattle.laws.specs.Maps.{upd}
@@ -28,7 +28,7 @@ use Rattle.ir.specs.declared.frame.Shape.{Shape}
 use Rattle.ir.specs.Words.{main_of, offset_of, row_of}
 use Rattle.values.specs.Values.{Value, base, ext, to_ext}
 use Rattle.blob_rules.specs.declared.blob.BlobCounts.{BlobCounts}
-use Rattle.blob_rules.specs.Blob.{Instr, instr_at, Blob, base_slots_of, ext_slots_of, is_ext, slot_of, kind_of, payload_of, Table, base_consts, ext_consts, challenges, alphas, size_of, Binary, plus, minus, times, Form, entry, cell, offset, binary, negation, embedding, Kind, base_slot, ext_slot, of, the_offset}
+use Rattle.blob_rules.specs.Blob.{Instr, instr_at, base_slots_of, ext_slots_of, is_ext, slot_of, kind_of, payload_of, Table, base_consts, ext_consts, challenges, alphas, size_of, Binary, plus, minus, times, Form, entry, cell, offset, binary, negation, embedding, Kind, base_slot, ext_slot, of, the_offset}
 
 -- what constants, cells by step and column, and uniforms hold
 pub record Contents (B X : Type 0) : Type 0 where

@@ -1,8 +1,8 @@
 -- The calls on form A, done and refused; and each leaves one answer and one memory.
 -- Assumes nothing.
 use mathlib.Core.List.{List, [], ◌∷◌}
-use mathlib.Core.Path.{◌≡◌, refl, sym, ap, ◌∙◌}
-use Prim.Native.Nat.{ℕ, ◌+◌, ◌<◌, ◌≤◌}
+use mathlib.Core.Path.{◌≡◌, sym, ap, ◌∙◌}
+use Prim.Native.Nat.{ℕ, ◌<◌, ◌≤◌}
 use native.Mathlib.Omega.{arith}
 use lib.ListN.{length}
 use borrow.Author.Tests.{ne_eqb, lt-ltb, le-ltb}
@@ -12,14 +12,12 @@ use Rattle.ir.specs.Refusals.{gives, said_of}
 use Rattle.ir.proofs.RefusalLaws.{refusal_number}
 use Rattle.blob_rules.specs.declared.blob.BlobCounts.{BlobCounts}
 use Rattle.stored.specs.declared.write.Stored.{Stored}
-use Rattle.stored.specs.declared.write.Stored.TheVariants as Stored
 use Rattle.stored.specs.declared.read.ReadStored.{ReadStored}
-use Rattle.stored.specs.declared.read.ReadStored.TheVariants as ReadStored
-use Rattle.stored_parts.specs.Form.{Tables, counts_in}
+use Rattle.stored_parts.specs.Form.{Tables}
 use Rattle.stored.specs.Answer.{said_of_stored, WriteAnswer, said_of_read, ReadAnswer}
 use Rattle.listing.specs.Listing.{blob_list, Puts}
 use Rattle.stored.proofs.AnswerLaws.{read_ok}
-use Rattle.host_answer.specs.Answer.{answer_of, value_on_done}
+use Rattle.host_answer.specs.Answer.{answer_of}
 use Rattle.host_stored.specs.StoredCalls.{WritesFile, ReadsFile, list_said, ListsFile}
 
 -- ---- writing

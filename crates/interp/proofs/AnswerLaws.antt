@@ -16,7 +16,7 @@ use Rattle.ir.specs.declared.refusal.Refusal.{Refusal}
 use Rattle.ir.specs.declared.refusal.Outcome.{Outcome}
 use Rattle.ir.specs.declared.refusal.Outcome.TheVariants.{Done, Refused}
 use Rattle.ir.specs.Program.{num_base_of}
-use Rattle.ir.specs.Refusals.{Row, row, row_at, gives, said_of, said_of_outcome, first, any_holds}
+use Rattle.ir.specs.Refusals.{Row, row_at, gives, said_of, said_of_outcome, first, any_holds}
 use Rattle.ir.proofs.RefusalLaws.{numbered, done_rows, loud_rows, first_any, first_none}
 use Rattle.values.specs.declared.frame.Limits.{Limits}
 use Rattle.evaluation.specs.declared.frame.Lengths.{Lengths}

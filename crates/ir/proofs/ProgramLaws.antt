@@ -1,6 +1,6 @@
 -- From the tests of a program to what they say.
 -- Assumes nothing.
-use mathlib.Core.Bool.{Bool, true, false, ◌||◌}
+use mathlib.Core.Bool.{false, ◌||◌}
 use mathlib.Core.Path.{◌≡◌}
 use Prim.Native.Nat.{ℕ, ◌*◌, ◌≤◌}
 use lib.Dec.{ltb}

@@ -1,20 +1,20 @@
 -- The program check's test and the facts that it stands for, both ways round.
 -- Assumes nothing.
-use mathlib.Core.Bool.{Bool, true, false, cond, not, ◌&&◌}
+use mathlib.Core.Bool.{Bool, true, cond, not, ◌&&◌}
 use mathlib.Core.List.{List}
 use mathlib.Core.Option.{none}
-use mathlib.Core.Path.{◌≡◌, refl}
-use Prim.Native.Nat.{ℕ, zero, suc, ◌%◌, ◌<◌, ◌≤◌}
+use mathlib.Core.Path.{◌≡◌}
+use Prim.Native.Nat.{ℕ, ◌%◌, ◌<◌, ◌≤◌}
 use native.Mathlib.Omega.{arith}
 use lib.Dec.{eqb, ltb, leb}
 use lib.ListN.{get_or}
-use borrow.Author.Tests.{ltb-true, ltb-false, leb-false, eqb-true, eqb-false, lt-ltb, le-ltb, lt-leb, eq-eqb, ne_eqb, not-false}
-use Rattle.laws.specs.Folds.{lowest, or_else}
+use borrow.Author.Tests.{ltb-true, ltb-false, leb-false, eqb-true, eqb-false, lt-ltb, lt-leb, eq-eqb, ne_eqb, not-false}
+use Rattle.laws.specs.Folds.{lowest}
 use Rattle.laws.proofs.Cases.{by_test}
 use Rattle.laws.proofs.Folds.{lowest_none, none_lowest, or_none_left, or_none_right}
-use Rattle.laws.proofs.Tests.{clash, and_left, and_right}
+use Rattle.laws.proofs.Tests.{and_left, and_right}
 use Rattle.ir.specs.declared.program.Counts.{Counts}
-use Rattle.ir.specs.Words.{Node, node_at, add, neg, embed}
+use Rattle.ir.specs.Words.{Node, node_at, neg, embed}
 use Rattle.ir.specs.Program.{var_ok, leaf_ok, operation_ok, node_ok, ill_formed, joined}
 use Rattle.ir.specs.WellFormed.{NodeFacts, WellFormed}
 

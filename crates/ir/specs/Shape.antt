@@ -1,6 +1,6 @@
 -- When a frame's shape is over its limits: 2.
 -- Assumes nothing.
-use Rattle.std.specs.Prelude.{Bool, ◌||◌, ℕ, ltb}
+use Rattle.std.specs.Prelude.{Bool, ◌||◌, ltb}
 use Rattle.ir.specs.declared.frame.Shape.{Shape}
 
 -- over 256 steps, or 65,536 of anything else

@@ -1,6 +1,6 @@
 -- Node words, as document 01 has them: four words a node, with the OP_ numbers of device.rs for tags.
 -- Assumes nothing.
-use Rattle.std.specs.Prelude.{Bool, true, false, cond, not, List, ℕ, ◌+◌, ◌*◌, ◌/◌, ◌%◌, eqb, get_or}
+use Rattle.std.specs.Prelude.{Bool, cond, not, List, ℕ, ◌+◌, ◌*◌, ◌/◌, ◌%◌, eqb, get_or}
 use Rattle.ir.specs.declared.node.Packed.{Packed}
 use Rattle.ir.specs.declared.node.Var.{Var}
 

@@ -1,7 +1,7 @@
 -- Laws of answers that may be missing: of a step that asks for several, whether one is.
 -- Assumes nothing.
 use mathlib.Core.Bool.{Bool, true, false, not, ◌&&◌}
-use mathlib.Core.Option.{Option, none, some, some-injective}
+use mathlib.Core.Option.{Option, none, some}
 use mathlib.Core.Path.{◌≡◌, refl}
 use Rattle.laws.specs.Options.{after, on1, on2, only_if, missing}
 use Rattle.laws.proofs.Folds.{none_some}

@@ -4,8 +4,8 @@ ghost use Rattle.stored_parts.specs.Form.{words, below_p, tables_in};
 ghost use Rattle.listing.specs.Listing.{decimal, ending, numbers, line, lines, node_name, const_name, ext_name, root_name, refused_name, listing, blob_list, Listable, Puts};
 
 use blob_rules::blob::BlobCounts;
-use little_endian::bytes::{u32_at, u64_at};
 use field::goldilocks::Fp;
+use little_endian::bytes::{u32_at, u64_at};
 use stored_parts::form::TRAILER_BYTES;
 use stored_parts::reading::{bad_framing, counts_in};
 

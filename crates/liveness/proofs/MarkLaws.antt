@@ -3,7 +3,7 @@
 use mathlib.Core.Bool.{Bool, true, false, cond, not, ◌&&◌, ◌||◌}
 use mathlib.Core.List.{List, [], ◌∷◌}
 use mathlib.Core.Path.{◌≡◌, refl, sym, ap, ◌∙◌}
-use Prim.Native.Nat.{ℕ, zero, suc, ◌+◌, ◌<◌, ◌≤◌, ◌-◌}
+use Prim.Native.Nat.{ℕ, zero, suc, ◌+◌, ◌<◌, ◌≤◌}
 use native.Mathlib.Omega.{arith}
 use native.Mathlib.Numerals.{add-one}
 use lib.Dec.{eqb, ltb}
@@ -15,7 +15,7 @@ use Rattle.laws.proofs.Cases.{by_test}
 use Rattle.laws.proofs.Tests.{clash}
 use Rattle.ir.specs.declared.program.Counts.{Counts}
 use Rattle.ir.specs.Words.{node_at}
-use Rattle.liveness.specs.Liveness.{operands, reads_of, last_by, is_root_of, is_used, live}
+use Rattle.liveness.specs.Liveness.{reads_of, last_by, is_root_of, is_used, live}
 use Rattle.liveness.specs.LiveLists.{bit, Readers, NodeMarked, Rooted, emits_word, count_below, busy, Emits, LiveOk, Alive}
 
 -- where nothing is held, every word is 0

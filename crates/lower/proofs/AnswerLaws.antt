@@ -1,28 +1,27 @@
 -- What `lower` answers, test by test.
 -- Assumes nothing.
-use mathlib.Core.Bool.{Bool, true, false, cond, ◌||◌}
-use mathlib.Core.List.{List, [], ◌∷◌, ◌++◌}
-use mathlib.Core.Option.{Option, none, some}
+use mathlib.Core.Bool.{Bool, false, cond, ◌||◌}
+use mathlib.Core.List.{List, ◌++◌}
+use mathlib.Core.Option.{none}
 use mathlib.Core.Path.{◌≡◌, refl, sym, ap, ◌∙◌}
-use Prim.Native.Nat.{ℕ, ◌+◌, ◌*◌, ◌<◌, ◌≤◌}
-use native.Mathlib.Omega.{arith}
+use Prim.Native.Nat.{ℕ, ◌*◌, ◌≤◌}
 use lib.Dec.{eqb, ltb}
-use lib.ListN.{length, take, drop, replicate}
+use lib.ListN.{length, take, drop}
 use lib.Seq.{length-take-le}
 use borrow.Author.Tests.{ltb-false}
 use Rattle.laws.proofs.Cases.{by_test}
 use Rattle.laws.proofs.Tests.{or_left, or_right}
 use Rattle.ir.specs.declared.program.Counts.{Counts}
 use Rattle.ir.specs.declared.refusal.Refusal.{Refusal}
-use Rattle.ir.specs.Refusals.{Said, gives, refuses, said_of}
+use Rattle.ir.specs.Refusals.{gives, refuses, said_of}
 use Rattle.ir.specs.Program.{Program, too_many_nodes, too_many_roots, short_tables, ill_formed}
 use Rattle.ir.proofs.ProgramLaws.{few, few_roots, long}
 use Rattle.ir.proofs.WellFormedLaws.{well_formed}
 use Rattle.blob_rules.specs.Check.{cleared}
 use Rattle.lower_parts.specs.declared.parts.Lowering.{Lowering}
-use Rattle.lower_parts.specs.declared.parts.Lowering.TheVariants.{Lowered, Refused}
+use Rattle.lower_parts.specs.declared.parts.Lowering.TheVariants.{Refused}
 use Rattle.lower_parts.specs.Lower.{blob_of}
-use Rattle.lower_parts.specs.Answer.{Lists, Output, lowering, short_lists, short_output, counts_of, lower_said, said_of_lowering, emptied, written, LowerAnswer}
+use Rattle.lower_parts.specs.Answer.{Lists, Output, lowering, short_lists, short_output, counts_of, lower_said, emptied, LowerAnswer}
 use Rattle.lower_parts.specs.Inner.{LowerOk, WordsAnswer}
 use Rattle.lower.proofs.EndLaws.{Exact, zeros}
 

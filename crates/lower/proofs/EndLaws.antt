@@ -1,28 +1,27 @@
 -- Lowering past its tests: the lists before and after, and whether the blob has room.
 -- Assumes nothing.
-use mathlib.Core.Bool.{Bool, true, false, cond, ◌||◌}
+use mathlib.Core.Bool.{Bool, true, false, ◌||◌}
 use mathlib.Core.List.{List, [], ◌∷◌, ◌++◌}
 use mathlib.Core.Path.{◌≡◌, refl, sym, ap, ◌∙◌}
-use Prim.Native.Nat.{ℕ, zero, suc, ◌+◌, ◌*◌, ◌<◌, ◌≤◌}
+use Prim.Native.Nat.{ℕ, zero, suc, ◌*◌, ◌≤◌}
 use native.Mathlib.Omega.{arith}
 use lib.Dec.{ltb}
-use lib.ListN.{length, get_or, drop, replicate, length-append, length-replicate}
+use lib.ListN.{length, get_or, drop, replicate, length-replicate}
 use borrow.Author.Tests.{ltb-false}
 use Rattle.laws.proofs.Tests.{or_left, or_right}
 use Rattle.laws.proofs.Tabulate.{length_tabulate}
 use Rattle.ir.specs.declared.program.Counts.{Counts}
-use Rattle.ir.specs.Refusals.{gives, refuses}
+use Rattle.ir.specs.Refusals.{refuses}
 use Rattle.ir.specs.Program.{Program}
 use Rattle.blob_rules.specs.declared.blob.BlobCounts.{BlobCounts}
 use Rattle.blob_rules.specs.Check.{cleared}
 use Rattle.lower_parts.specs.declared.parts.Lowering.{Lowering}
-use Rattle.lower_parts.specs.declared.parts.Lowering.TheVariants.{Lowered, Refused}
+use Rattle.lower_parts.specs.declared.parts.Lowering.TheVariants.{Lowered}
 use Rattle.liveness.specs.Liveness.{live}
-use Rattle.scan_parts.specs.Scan.{scan, flat}
-use Rattle.lower_parts.specs.Lower.{blob_of}
-use Rattle.lower_parts.specs.Answer.{Lists, Output, lowering, short_output, counts_of, said_of_lowering, emptied, written}
+use Rattle.scan_parts.specs.Scan.{scan}
+use Rattle.lower_parts.specs.Answer.{Lists, Output, lowering, short_output, said_of_lowering, emptied}
 use Rattle.liveness.specs.LiveLists.{busy, LiveOk, Alive}
-use Rattle.lower_parts.specs.Inner.{WriteOk, BlobWritten, ListsLong, CountsOk, LowerOk, WordsAnswer}
+use Rattle.lower_parts.specs.Inner.{WriteOk, BlobWritten, ListsLong, LowerOk, WordsAnswer}
 use Rattle.scan.proofs.WordLaws.{flat_length}
 use Rattle.lower_parts.proofs.AgreeLaws.{out_count, nodes_below, roots_below}
 

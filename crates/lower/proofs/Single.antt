@@ -1,6 +1,6 @@
 -- The promise of `lower` leaves one answer and one memory, and its rows stand in document 01's order.
 -- Assumes nothing.
-use mathlib.Core.Bool.{true, false, cond}
+use mathlib.Core.Bool.{true, cond}
 use mathlib.Core.Path.{◌≡◌, refl, sym, ap, ◌∙◌}
 use lib.Dec.{eqb}
 use lib.ListN.{get_or}

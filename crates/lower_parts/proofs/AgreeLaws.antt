@@ -1,27 +1,27 @@
 -- The scan reads its liveness at the program's nodes only: lists that stand for a liveness there scan as it does.
 -- Assumes nothing.
 use mathlib.Core.Bool.{Bool, true, false, cond, not, ◌&&◌, ◌||◌}
-use mathlib.Core.List.{List, [], ◌∷◌, ◌++◌}
+use mathlib.Core.List.{List, [], ◌∷◌}
 use mathlib.Core.Path.{◌≡◌, refl, sym, ap, ◌∙◌}
 use Prim.Native.Nat.{ℕ, zero, suc, ◌+◌, ◌*◌, ◌<◌, ◌≤◌}
 use native.Mathlib.Omega.{arith}
 use lib.Dec.{eqb, ltb}
-use lib.ListN.{length, get_or}
+use lib.ListN.{length}
 use borrow.Author.Tests.{eq-eqb, eqb-true, eqb-false, ltb-true, ltb-false}
 use Rattle.laws.proofs.Cases.{by_test}
-use Rattle.laws.proofs.Tests.{clash, and_left, and_right}
+use Rattle.laws.proofs.Tests.{clash, and_left}
 use Rattle.ir.specs.declared.program.Counts.{Counts}
 use Rattle.ir.specs.Words.{Node, node_at}
 use Rattle.ir.specs.Program.{most, joined}
 use Rattle.ir.specs.WellFormed.{NodeFacts, WellFormed}
-use Rattle.liveness.specs.Liveness.{has, operands, is_uniform, Liveness, live, Sound, is_root_of}
+use Rattle.liveness.specs.Liveness.{has, operands, is_uniform, Liveness, live, is_root_of}
 use Rattle.scan_parts.specs.Scan.{Scan, encode, written, give, give_all, claim, scan}
 use Rattle.scan.specs.Arrays.{Scannable}
-use Rattle.liveness.specs.LiveLists.{bit, count_below, listed, OperandsBelow, NodesBelow, RootsBelow, Alive}
+use Rattle.liveness.specs.LiveLists.{bit, count_below, listed, NodesBelow, RootsBelow, Alive}
 use Rattle.scan.proofs.LiveLaws.{live_sound}
 use Rattle.scan.proofs.WordLaws.{by_leaf}
 use Rattle.scan_parts.proofs.SpellLaws.{has_first, has_second}
-use Rattle.scan.proofs.ReadyLaws.{scan_skips, scan_writes, one_more}
+use Rattle.scan.proofs.ReadyLaws.{scan_skips, one_more}
 
 -- two livenesses say the same of n nodes
 pub record Agree (n : ℕ) (v w : Liveness) : Type 0 where

@@ -1,30 +1,27 @@
 -- The blob that the lists and tables of a checked program give.
 -- Assumes nothing.
-use mathlib.Core.Bool.{Bool, true, false, cond}
-use mathlib.Core.List.{List, [], ◌∷◌, ◌++◌}
+use mathlib.Core.List.{List, ◌++◌}
 use mathlib.Core.Path.{◌≡◌, refl, sym, ap, ◌∙◌}
-use Prim.Native.Nat.{ℕ, zero, suc, ◌+◌, ◌-◌, ◌*◌, ◌%◌, ◌<◌, ◌≤◌}
+use Prim.Native.Nat.{ℕ, ◌*◌, ◌%◌}
 use native.Mathlib.Omega.{arith}
 use lib.ListN.{length, get_or, drop}
 use Rattle.laws.specs.Lists.{tabulate}
 use Rattle.laws.proofs.Tabulate.{length_tabulate}
 use Rattle.field.specs.Base.{p}
 use Rattle.ir.specs.declared.program.Counts.{Counts}
-use Rattle.ir.specs.Words.{Node, node_at}
-use Rattle.ir.specs.WellFormed.{WellFormed}
+use Rattle.ir.specs.Words.{node_at}
 use Rattle.liveness.specs.Liveness.{Liveness, live}
 use Rattle.scan_parts.specs.Scan.{Scan, scan, flat}
 use Rattle.lower_parts.specs.Lower.{root_word, Lowered, lowered}
-use Rattle.lower_parts.specs.Answer.{Output, over, written}
+use Rattle.lower_parts.specs.Answer.{over}
 use Rattle.scan.specs.Arrays.{Begins, Scanned}
-use Rattle.scan_parts.specs.Pools.{ClassOk}
-use Rattle.liveness.specs.LiveLists.{Tab, listed, Alive}
-use Rattle.lower_parts.specs.Inner.{RootOk, RootsOk, WriteOk, BlobWritten}
+use Rattle.liveness.specs.LiveLists.{Tab, listed}
+use Rattle.lower_parts.specs.Inner.{RootsOk, WriteOk, BlobWritten}
 use Rattle.scan.proofs.LiveLaws.{live_sound}
 use Rattle.scan.proofs.ScanLaws.{scan_kept, root_held_lem, next_le}
 use Rattle.liveness.proofs.Single.{tabulate_same}
 use Rattle.scan.proofs.WordLaws.{flat_length}
-use Rattle.lower_parts.proofs.AgreeLaws.{Agree, agree, scannable, scan_same, out_count, operand_before, dim_two}
+use Rattle.lower_parts.proofs.AgreeLaws.{agree, scannable, scan_same, out_count, operand_before, dim_two}
 
 -- words in a row over what was there
 over_rows : (k : ℕ) (f : ℕ → ℕ) (old : List ℕ) → tabulate k f ++ drop k old ≡ over (tabulate k f) old

@@ -1,20 +1,19 @@
 -- A leaf has the same value for the evaluator and for the walk of what was lowered: cells are read at the same place, and
 -- constants are the program's, put below p.
 -- Assumes nothing.
-use mathlib.Core.Bool.{Bool, true, false, cond, ◌||◌}
-use mathlib.Core.List.{List, [], ◌∷◌}
-use mathlib.Core.Option.{Option, none, some}
+use mathlib.Core.Bool.{true, false, cond}
+use mathlib.Core.List.{List}
+use mathlib.Core.Option.{none}
 use mathlib.Core.Path.{◌≡◌, refl, sym, ap, ◌∙◌}
 use Prim.Native.Nat.{ℕ, ◌+◌, ◌*◌, ◌%◌, ◌<◌, ◌≤◌}
 use native.Mathlib.Nat.{zero-add, mod-eq_of_lt}
 use native.Mathlib.Omega.{arith}
-use lib.Dec.{eqb, leb}
+use lib.Dec.{leb}
 use lib.ListN.{get_or, drop}
 use lib.Seq.{get_or-take, get_or-drop}
-use borrow.Author.Tests.{leb-false, eqb-true}
+use borrow.Author.Tests.{leb-false}
 use Rattle.laws.specs.Folds.{lowest}
 use Rattle.laws.specs.Lists.{tabulate, block}
-use Rattle.laws.proofs.Cases.{by_test}
 use Rattle.laws.proofs.Tests.{or_left, or_right}
 use Rattle.laws.proofs.Folds.{lowest_none}
 use Rattle.laws.proofs.Tabulate.{tabulate_at, length_tabulate}
@@ -24,8 +23,8 @@ use Rattle.extension.specs.Tower.{goldilocks, remainders}
 use Rattle.ir.specs.declared.program.Counts.{Counts}
 use Rattle.ir.specs.declared.frame.Shape.{Shape}
 use Rattle.ir.specs.Words.{Node, node_at, main_of, offset_of}
-use Rattle.ir.specs.WellFormed.{NodeFacts, WellFormed}
-use Rattle.values.specs.Values.{Value, base, ext, Leaves, leaf_value}
+use Rattle.ir.specs.WellFormed.{WellFormed}
+use Rattle.values.specs.Values.{base, ext, Leaves, leaf_value}
 use Rattle.values.specs.Frame.{Lent, word, triple, leaves, outside, cell_outside, node_outside, prover_strides, frame_limits}
 use Rattle.blob_rules.specs.declared.blob.BlobCounts.{BlobCounts}
 use Rattle.slots.specs.Trace.{row_at, contents}

@@ -1,6 +1,6 @@
 -- A lowered program gets through the step rule, and so passes the check; each root has the plain evaluator's value.
 -- Assumes nothing.
-use mathlib.Core.Bool.{Bool, true, false, cond, not, ◌&&◌}
+use mathlib.Core.Bool.{false, ◌&&◌}
 use mathlib.Core.List.{List, []}
 use mathlib.Core.Logic.{by_cases}
 use mathlib.Core.Option.{Option, none, some}
@@ -8,12 +8,10 @@ use mathlib.Core.Path.{◌≡◌, refl, sym, ap, ◌∙◌}
 use Prim.Native.Nat.{ℕ, zero, suc, ◌-◌, ◌<◌, ◌≤◌}
 use native.Mathlib.Decide.{ℕ_discrete}
 use native.Mathlib.Omega.{arith}
-use lib.Dec.{eqb, ltb}
-use lib.ListN.{length, get_or}
+use lib.Dec.{ltb}
+use lib.ListN.{get_or}
 use borrow.Author.Tests.{ltb-true}
-use Rattle.laws.specs.Folds.{lowest, or_else}
-use Rattle.laws.specs.Lists.{tabulate}
-use Rattle.laws.specs.Options.{after, only_if, missing}
+use Rattle.laws.specs.Options.{after, missing}
 use Rattle.laws.proofs.Cases.{by_test}
 use Rattle.laws.proofs.Folds.{none_lowest}
 use Rattle.laws.proofs.Options.{after_some}
@@ -23,17 +21,15 @@ use Rattle.ir.specs.declared.program.Counts.{Counts}
 use Rattle.ir.specs.declared.frame.Shape.{Shape}
 use Rattle.ir.specs.Words.{node_at}
 use Rattle.ir.specs.Program.{num_base_of}
-use Rattle.ir.specs.Refusals.{Said, first, gives}
+use Rattle.ir.specs.Refusals.{first, gives}
 use Rattle.ir.specs.WellFormed.{WellFormed}
-use Rattle.values.specs.Values.{Value}
 use Rattle.values.proofs.RunLaws.{value_at}
-use Rattle.blob_rules.specs.declared.blob.BlobCounts.{BlobCounts}
 use Rattle.blob_rules.specs.Blob.{Blob, instr_at, is_ext, tags, kinds}
 use Rattle.device.specs.StepRule.{Contents, Slots, step, slots_after, root_held, root_value, stops_at}
 use Rattle.blob_rules.specs.Check.{legal_rows}
 use Rattle.device.proofs.Theorem.{passes}
 use Rattle.liveness.specs.Liveness.{Liveness, Sound}
-use Rattle.scan_parts.specs.Scan.{scan, flat, slot_word}
+use Rattle.scan_parts.specs.Scan.{scan}
 use Rattle.lower_parts.specs.Lower.{Lowered, root_word, lowered, blob_of}
 use Rattle.scan.proofs.ScanLaws.{root_held_lem}
 use Rattle.lowered.specs.Faithful.{leaves_of}

@@ -1,21 +1,20 @@
 -- What a value that is put into a slot changes, and the walk of one node more.
 -- Assumes nothing.
-use mathlib.Core.Bool.{Bool, true, false, cond, not, ◌&&◌}
+use mathlib.Core.Bool.{cond, not}
 use mathlib.Core.List.{List, [], ◌∷◌, ◌++◌}
-use mathlib.Core.Option.{Option, none, some}
-use mathlib.Core.Path.{◌≡◌, refl, sym, ap, ◌∙◌}
+use mathlib.Core.Option.{Option, some}
+use mathlib.Core.Path.{◌≡◌, refl}
 use Prim.Native.Nat.{ℕ, zero, suc, ◌<◌, ◌≤◌}
 use native.Mathlib.Omega.{arith}
-use lib.Dec.{eqb, ltb}
+use lib.Dec.{eqb}
 use lib.ListN.{length, length-append}
 use borrow.Author.Tests.{lt-ltb}
 use Rattle.laws.specs.Maps.{upd}
-use Rattle.laws.specs.Options.{after, on1, only_if}
 use Rattle.extension.specs.Tower.{Tower}
 use Rattle.ir.specs.declared.frame.Shape.{Shape}
 use Rattle.values.specs.Values.{Value, base, ext, class_of}
 use Rattle.blob_rules.specs.declared.blob.BlobCounts.{BlobCounts}
-use Rattle.blob_rules.specs.Blob.{Instr, instr_at, base_slots_of, ext_slots_of, is_ext, slot_of, Form, Kind}
+use Rattle.blob_rules.specs.Blob.{Instr, base_slots_of, ext_slots_of, is_ext, Form, Kind}
 use Rattle.device.specs.StepRule.{Contents, Slots, put, step, slots_after, root_held}
 use Rattle.scan_parts.specs.Scan.{slot_word, flat}
 use Rattle.scan_parts.proofs.UpdLaws.{upd_same, upd_other}

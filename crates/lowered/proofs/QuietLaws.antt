@@ -1,14 +1,14 @@
 -- What is known of a program and a frame that the plain evaluator answers.
 -- Assumes nothing.
-use mathlib.Core.Bool.{Bool, true, false, cond, not, ◌&&◌, ◌||◌}
-use mathlib.Core.List.{List, [], ◌∷◌, ◌++◌}
-use mathlib.Core.Option.{Option, none, some}
-use mathlib.Core.Path.{◌≡◌, refl, sym, ap, ◌∙◌}
+use mathlib.Core.Bool.{false, not, ◌&&◌, ◌||◌}
+use mathlib.Core.List.{List, []}
+use mathlib.Core.Option.{none}
+use mathlib.Core.Path.{◌≡◌, refl, sym, ap}
 use Prim.Native.Nat.{ℕ, ◌*◌, ◌<◌, ◌≤◌}
 use native.Mathlib.Omega.{arith}
 use lib.Dec.{eqb, ltb}
 use lib.ListN.{length, get_or}
-use borrow.Author.Tests.{ltb-false, lt-ltb, eqb-true, eqb-false, ne_eqb}
+use borrow.Author.Tests.{ltb-false, lt-ltb, eqb-true}
 use Rattle.laws.specs.Folds.{lowest}
 use Rattle.laws.proofs.Cases.{by_test}
 use Rattle.laws.proofs.Tests.{clash, or_left, or_right}
@@ -19,9 +19,8 @@ use Rattle.ir.specs.declared.refusal.Outcome.TheVariants.{Done}
 use Rattle.ir.specs.Words.{node_at}
 use Rattle.ir.specs.Program.{num_base_of, too_many_nodes, too_many_roots, short_tables, ill_formed}
 use Rattle.ir.specs.Shape.{over_shape}
-use Rattle.ir.specs.Refusals.{Said, Row, found, any_holds, gives}
+use Rattle.ir.specs.Refusals.{Said, found, any_holds}
 use Rattle.ir.proofs.RefusalLaws.{done_quiet, not_found}
-use Rattle.values.specs.declared.frame.Limits.{Limits}
 use Rattle.evaluation.specs.declared.frame.Lengths.{Lengths}
 use Rattle.values.specs.Frame.{Lent, node_outside, frame_limits}
 use Rattle.evaluation.specs.Evaluation.{short_frame, short_memory, short_evals, ext_root, root_dim, prover_rows, lengths, ProverAnswer}

@@ -1,26 +1,23 @@
 -- Evaluator and walk read their tables where the program does, and nowhere else.
 -- Assumes nothing.
-use mathlib.Core.Bool.{Bool, true, false, cond}
-use mathlib.Core.List.{List, [], ◌∷◌, ◌++◌}
-use mathlib.Core.Option.{Option, none, some}
-use mathlib.Core.Path.{◌≡◌, refl, sym, ap, ◌∙◌}
+use mathlib.Core.List.{List}
+use mathlib.Core.Path.{◌≡◌, refl, ap}
 use Prim.Native.Nat.{ℕ, zero, suc, ◌+◌, ◌*◌, ◌<◌, ◌≤◌}
 use native.Mathlib.Omega.{arith}
 use lib.Dec.{ltb}
-use lib.ListN.{length, get_or, set, drop, get_or-append}
-use lib.Seq.{sets}
-use borrow.Author.Tests.{ltb-true, ltb-false}
+use lib.ListN.{length, get_or, drop, get_or-append}
+use borrow.Author.Tests.{ltb-true}
 use Rattle.laws.specs.Maps.{upd}
 use Rattle.laws.specs.Options.{after}
 use Rattle.laws.proofs.Cases.{by_test}
 use Rattle.extension.specs.Tower.{Tower}
 use Rattle.ir.specs.declared.frame.Shape.{Shape}
-use Rattle.ir.specs.Words.{Node, node_at}
+use Rattle.ir.specs.Words.{node_at}
 use Rattle.values.specs.Values.{Value, Leaves, leaf_value, node_value, values}
-use Rattle.evaluation.specs.Evals.{base_word, ext_words, base_evals_of, ext_evals_of}
+use Rattle.evaluation.specs.Evals.{base_evals_of, ext_evals_of}
 use Rattle.blob_rules.specs.declared.blob.BlobCounts.{BlobCounts}
-use Rattle.blob_rules.specs.Blob.{Instr, instr_at, Form, Kind}
-use Rattle.device.specs.StepRule.{Contents, Slots, step, slots_after}
+use Rattle.blob_rules.specs.Blob.{instr_at, Form, Kind}
+use Rattle.device.specs.StepRule.{Contents, step, slots_after}
 use Rattle.lower_parts.specs.Answer.{over}
 
 -- ---- words over others

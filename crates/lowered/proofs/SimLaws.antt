@@ -1,36 +1,35 @@
 -- The walk of what the scan writes follows the plain evaluator: each slot holds the value of the node that has it.
 -- Assumes nothing.
-use mathlib.Core.Bool.{Bool, true, false, cond, not, ◌&&◌, ◌||◌}
-use mathlib.Core.List.{List, [], ◌∷◌, ◌++◌}
+use mathlib.Core.Bool.{Bool, true, false, cond, not, ◌||◌}
+use mathlib.Core.List.{List, [], ◌∷◌}
 use mathlib.Core.Option.{Option, none, some}
-use mathlib.Core.Path.{◌≡◌, refl, sym, ap, ◌∙◌, subst}
+use mathlib.Core.Path.{◌≡◌, refl, sym, ap, ◌∙◌}
 use Prim.Native.Nat.{ℕ, zero, suc, ◌+◌, ◌*◌, ◌-◌, ◌<◌, ◌≤◌}
 use native.Mathlib.Omega.{arith}
 use lib.Dec.{eqb, ltb}
 use lib.ListN.{length, get_or}
 use borrow.Author.Tests.{ltb-true, ltb-false, lt-ltb, le-ltb, eqb-false, eq-eqb}
-use Rattle.laws.specs.Options.{after, at}
+use Rattle.laws.specs.Options.{at}
 use Rattle.laws.proofs.Cases.{by_test}
 use Rattle.laws.proofs.Tests.{and_left, and_right}
 use Rattle.extension.specs.Tower.{Tower}
 use Rattle.ir.specs.declared.program.Counts.{Counts}
 use Rattle.ir.specs.declared.frame.Shape.{Shape}
 use Rattle.ir.specs.Words.{Node, node_at}
-use Rattle.ir.specs.Program.{joined}
-use Rattle.ir.specs.WellFormed.{NodeFacts, WellFormed}
+use Rattle.ir.specs.WellFormed.{WellFormed}
 use Rattle.values.specs.Values.{Value, base, ext, class_of, to_ext, binop, unop, leaf_value, operation_value, node_value, values}
 use Rattle.values.proofs.ClassLaws.{class_is_dim}
 use Rattle.values.proofs.RunLaws.{value_at, value_stays, value_computed}
 use Rattle.blob_rules.specs.declared.blob.BlobCounts.{BlobCounts}
-use Rattle.blob_rules.specs.Blob.{Instr, is_ext, Binary, plus, minus, times, binary, tags, kinds}
+use Rattle.blob_rules.specs.Blob.{Instr, Binary, plus, minus, times, binary, tags, kinds}
 use Rattle.device.specs.StepRule.{Contents, Slots, operand, op₀, op₁, value_of, step, slots_after, root_held}
 use Rattle.device.proofs.Theorem.{by_operation}
 use Rattle.liveness.specs.Liveness.{has, operands, is_uniform, Liveness, Sound}
-use Rattle.scan_parts.specs.Scan.{Scan, pick, more, slot_word, uniform_kind, encode, written, give_all, claim, scan, flat}
+use Rattle.scan_parts.specs.Scan.{Scan, slot_word, uniform_kind, encode, written, claim, scan, flat}
 use Rattle.lower_parts.specs.Lower.{root_word}
 use Rattle.scan_parts.proofs.UpdLaws.{upd_case}
-use Rattle.scan.proofs.SlotLaws.{kept, Good, pick_unheld}
-use Rattle.scan.proofs.ScanLaws.{cond_case, not_true, given, give_all_lem, given_keeps, freed, taken, Kept, freed_kept, scan_kept, taken_low, next_mono, next_le, operand_held, root_held_lem}
+use Rattle.scan.proofs.SlotLaws.{kept, pick_unheld}
+use Rattle.scan.proofs.ScanLaws.{cond_case, not_true, give_all_lem, given_keeps, freed, taken, freed_kept, scan_kept, taken_low, next_mono, next_le, operand_held, root_held_lem}
 use Rattle.lowered.specs.Faithful.{leaves_of}
 use Rattle.lowered.proofs.ValueLaws.{LeafFits, slot_at, by_slot, by_name, leaf_written, binary_written, negation_written, embedding_written}
 use Rattle.lowered.proofs.PutLaws.{put_at, room_of, word_class, put_lands, put_same, put_other, root_word_lem, slots_snoc}

@@ -1,58 +1,53 @@
 -- Demand 3, second half: what the plain evaluator answers lowers to a blob that passes the check, and whose walk leaves the same
 -- evals. The two statements are `LoweringIsFaithful` and `AnyLivenessIsFaithful` of specs/Faithful.antt.
 -- Assumes nothing.
-use mathlib.Core.Bool.{Bool, true, false, cond, not, ◌&&◌, ◌||◌}
-use mathlib.Core.List.{List, [], ◌∷◌, ◌++◌}
-use mathlib.Core.Option.{Option, none, some}
+use mathlib.Core.Bool.{false}
+use mathlib.Core.List.{List, []}
+use mathlib.Core.Option.{none, some}
 use mathlib.Core.Path.{◌≡◌, refl, sym, ap, ◌∙◌}
-use Prim.Native.Nat.{ℕ, zero, suc, ◌+◌, ◌*◌, ◌%◌, ◌<◌, ◌≤◌}
+use Prim.Native.Nat.{ℕ, zero, suc, ◌*◌, ◌<◌, ◌≤◌}
 use native.Mathlib.Omega.{arith}
-use lib.Dec.{eqb, ltb}
 use lib.ListN.{length, get_or, drop, length-append}
 use borrow.Author.Tests.{le-ltb}
 use Rattle.laws.specs.Folds.{lowest}
-use Rattle.laws.specs.Lists.{tabulate}
 use Rattle.laws.proofs.Tabulate.{length_tabulate}
-use Rattle.field.specs.Base.{p}
 use Rattle.extension.specs.Tower.{goldilocks}
 use Rattle.ir.specs.declared.program.Counts.{Counts}
 use Rattle.ir.specs.declared.frame.Shape.{Shape}
 use Rattle.ir.specs.declared.refusal.Outcome.{Outcome}
 use Rattle.ir.specs.declared.refusal.Outcome.TheVariants.{Done}
-use Rattle.ir.specs.Words.{node_at}
-use Rattle.ir.specs.Program.{Program, num_base_of, most, too_many_nodes}
-use Rattle.ir.specs.Refusals.{Said, first, gives, any_holds, said_of_outcome}
+use Rattle.ir.specs.Program.{Program, num_base_of, too_many_nodes}
+use Rattle.ir.specs.Refusals.{Said, first, gives, any_holds}
 use Rattle.ir.specs.WellFormed.{WellFormed}
-use Rattle.ir.proofs.ProgramLaws.{few, long}
+use Rattle.ir.proofs.ProgramLaws.{few}
 use Rattle.ir.proofs.RefusalLaws.{done_quiet, first_none}
 use Rattle.ir.proofs.Single.{outcome_single}
 use Rattle.ir.proofs.WellFormedLaws.{well_formed}
-use Rattle.values.specs.Values.{Value, values}
 use Rattle.values.specs.Frame.{Lent, leaves, prover_strides, node_outside, frame_limits}
 use Rattle.evaluation.specs.Evals.{base_evals_of, ext_evals_of}
 use Rattle.evaluation.specs.Evaluation.{lengths, ProverAnswer}
 use Rattle.evaluation.specs.Evaluation as Evaluation
-use Rattle.values.proofs.RunLaws.{value_at, value_stays}
+use Rattle.values.proofs.RunLaws.{value_stays}
 use Rattle.blob_rules.specs.declared.blob.BlobCounts.{BlobCounts}
-use Rattle.blob_rules.specs.Blob.{Blob, instr_at, tags, kinds}
-use Rattle.device.specs.StepRule.{Contents, Slots, slots_after, root_held}
-use Rattle.blob_rules.specs.Check.{short_check, check_rows, legal_rows, slot_count, CheckAnswer}
+use Rattle.blob_rules.specs.Blob.{Blob}
+use Rattle.device.specs.StepRule.{Contents, root_held}
+use Rattle.blob_rules.specs.Check.{short_check, legal_rows, slot_count, CheckAnswer}
 use Rattle.slots.specs.Slots.{slot_words}
 use Rattle.slots.specs.Trace.{contents}
-use Rattle.walk.specs.Walk.{short_frame, short_walk, short_evals, frame_lengths, memory_rows, walk_rows, value_or, slots_or, final_slots, root_values, WalkAnswer}
+use Rattle.walk.specs.Walk.{short_frame, short_walk, short_evals, frame_lengths, walk_rows, value_or, slots_or, root_values, WalkAnswer}
 use Rattle.lower_parts.specs.declared.parts.Lowering.{Lowering}
 use Rattle.lower_parts.specs.declared.parts.Lowering.TheVariants.{Lowered}
 use Rattle.liveness.specs.Liveness.{Liveness, live}
-use Rattle.scan_parts.specs.Scan.{scan, flat}
+use Rattle.scan_parts.specs.Scan.{scan}
 use Rattle.lower_parts.specs.Lower.{lowered, blob_of}
 use Rattle.lower_parts.specs.Lower as Lower
 use Rattle.lower_parts.specs.Answer.{Lists, Output, lowering, short_lists, short_output, lower_rows, lower_said, said_of_lowering, counts_of, over, written, LowerAnswer}
 use Rattle.scan.proofs.LiveLaws.{live_sound}
 use Rattle.lower.proofs.Single.{lowering_single}
 use Rattle.scan.proofs.WordLaws.{flat_length}
-use Rattle.lowered.specs.Faithful.{blob_in, with_constants, evaluated, leaves_of, Faithful, LoweringIsFaithful, AnyLivenessIsFaithful}
+use Rattle.lowered.specs.Faithful.{with_constants, evaluated, leaves_of, Faithful, LoweringIsFaithful, AnyLivenessIsFaithful}
 use Rattle.lowered.proofs.LeafLaws.{leaf_fits, leaf_same}
-use Rattle.lowered.proofs.PassLaws.{Begin, final, end_slots, end_root, check_passes}
+use Rattle.lowered.proofs.PassLaws.{Begin, end_slots, end_root, check_passes}
 use Rattle.lowered.proofs.PutLaws.{room_of}
 use Rattle.lowered.proofs.QuietLaws.{Answered, answered, quiet, tables, frame_long, leading_base}
 use Rattle.lowered.proofs.SameLaws.{over_at, instr_over, values_same, base_evals_same, ext_evals_same}

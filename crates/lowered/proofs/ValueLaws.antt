@@ -1,23 +1,21 @@
 -- One node: as it is written it comes to what the plain evaluator gives it, where its operands stand for theirs.
 -- Assumes nothing.
-use mathlib.Core.Bool.{Bool, true, false, cond, not, ◌&&◌, ◌||◌}
-use mathlib.Core.List.{List, [], ◌∷◌}
-use mathlib.Core.Option.{Option, none, some}
-use mathlib.Core.Path.{◌≡◌, refl, sym, ap, ◌∙◌}
-use Prim.Native.Nat.{ℕ, zero, suc, ◌+◌, ◌*◌, ◌%◌, ◌<◌, ◌≤◌}
+use mathlib.Core.Bool.{Bool, true, false, cond, not}
+use mathlib.Core.Option.{Option, some}
+use mathlib.Core.Path.{◌≡◌, refl}
+use Prim.Native.Nat.{ℕ, zero, suc, ◌+◌, ◌*◌, ◌%◌, ◌<◌}
 use native.Mathlib.Omega.{arith}
 use lib.Dec.{eqb, ltb}
 use borrow.Author.Tests.{lt-ltb, eq-eqb}
-use Rattle.laws.specs.Options.{after, on1, on2, only_if, at}
-use Rattle.laws.proofs.Cases.{by_test}
+use Rattle.laws.specs.Options.{on1, only_if, at}
 use Rattle.extension.specs.Tower.{Tower}
 use Rattle.ir.specs.declared.frame.Shape.{Shape}
 use Rattle.ir.specs.Words.{main_of, offset_of}
 use Rattle.ir.specs.Program.{joined}
-use Rattle.values.specs.Values.{Value, base, ext, class_of, Leaves, to_ext, binop, unop, leaf_value}
+use Rattle.values.specs.Values.{Value, base, ext, class_of, to_ext, binop, unop, leaf_value}
 use Rattle.blob_rules.specs.declared.blob.BlobCounts.{BlobCounts}
-use Rattle.blob_rules.specs.Blob.{Instr, is_ext, kind_of, payload_of, Binary, Form, binary, negation, embedding, tags, kinds}
-use Rattle.device.specs.StepRule.{Contents, Slots, only_base, held_by, operand, base_operand, ext_operand, op₀, op₁, value_of}
+use Rattle.blob_rules.specs.Blob.{is_ext, Binary, binary, tags, kinds}
+use Rattle.device.specs.StepRule.{Contents, Slots, operand, base_operand, ext_operand, op₀, op₁, value_of}
 use Rattle.scan_parts.specs.Scan.{uniform_kind}
 use Rattle.lowered.specs.Faithful.{leaves_of}
 use Rattle.scan.proofs.WordLaws.{kind_of_lem, payload_of_lem, by_leaf}

@@ -1,16 +1,15 @@
 -- Document 01's program E, lowered, checked and walked: what each slot holds after each node, by computation.
 -- Assumes nothing.
-use Rattle.std.specs.Prelude.{false, List, [], ◌∷◌, map, ◌≡◌, refl, ℕ}
-use Rattle.std.proofs.Math.Option.{Option, none, some}
+use Rattle.std.specs.Prelude.{List, [], ◌∷◌, map, ◌≡◌, refl, ℕ}
 use Rattle.laws.specs.Folds.{lowest}
 use Rattle.laws.specs.Maps.{upd}
 use Rattle.extension.specs.Ext.{sums, minuses, embedded, product}
 use Rattle.extension.specs.Tower.{goldilocks, remainders}
 use Rattle.ir.specs.Shape.{over_shape}
-use Rattle.ir.specs.Refusals.{Said, first, gives}
+use Rattle.ir.specs.Refusals.{first, gives}
 use Rattle.interp.specs.ExampleE.{shape, frame}
 use Rattle.blob_rules.specs.Blob.{Blob, tags, kinds}
-use Rattle.device.specs.StepRule.{Slots, base_operand, ext_operand, step, slots_after}
+use Rattle.device.specs.StepRule.{base_operand, ext_operand, step, slots_after}
 use Rattle.blob_rules.specs.Check.{operand_ok, cell_ok, node_ok, filled_after, illegal, ext_root, short_check, check_rows}
 use Rattle.slots.specs.Slots.{held_word, held_limbs}
 use Rattle.slots.specs.Trace.{contents}

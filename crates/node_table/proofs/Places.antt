@@ -1,17 +1,14 @@
 -- Over memory that pushes made, the hash places stand for the list of nodes, whatever the hash: a push answers as on the list, and
 -- keeps it so.
 -- Assumes nothing.
-use Rattle.std.proofs.Common.{◌≡◌, ℕ, zero, suc, ◌+◌, ◌-◌, ◌*◌, ◌/◌, ◌<◌, ◌≤◌, min, Bool, true, false, cond, ◌&&◌, ◌||◌, eqb, ltb, leb, ◌≢◌, ◌⊎◌, List, [], ◌∷◌, ◌++◌, length, get_or, set, sym, refl, ap, ◌∙◌, subst, inl, inr, ⊎_elim, arith, length-set, get_or-set_other, get_or-set_same, ltb-false, ltb-true, le-ltb, lt-ltb, eq-eqb, ne_eqb, eqb-true, le-leb, leb-true}
+use Rattle.std.proofs.Common.{◌≡◌, ℕ, suc, ◌+◌, ◌-◌, ◌*◌, ◌<◌, ◌≤◌, Bool, true, false, ◌&&◌, leb, ◌≢◌, ◌⊎◌, List, [], ◌∷◌, ◌++◌, length, get_or, set, sym, ap, ◌∙◌, subst, inl, inr, ⊎_elim, arith, length-set, get_or-set_other, get_or-set_same, eq-eqb, ne_eqb, le-leb, leb-true}
 use mathlib.Core.Logic.{by_cases}
-use mathlib.Core.Option.{Option, none, some}
 use native.Mathlib.Decide.{ℕ_discrete, dec_lt}
-use borrow.Author.Tests.{eqb-false}
 use Rattle.ir.specs.Words.{Node, node_at}
-use Rattle.node_table.specs.Words.{put, same, view, lookup}
-use Rattle.node_table.specs.Table.{onward, seek, used, Table, stops, find, room, Pushed, appended, push_at, push, Reached, Sound}
-use Rattle.node_table.specs.Model.{Listed, push_list, Follows}
+use Rattle.node_table.specs.Words.{put, same, view}
+use Rattle.node_table.specs.Table.{onward, Table, stops, find, appended, Reached, Sound}
 use Rattle.laws.proofs.Tests.{clash, and_left, and_right}
-use Rattle.node_table.proofs.Laws.{same_eq, eq_same, put_other, put_same, view_length, view_same, lookup_absent, lookup_present}
+use Rattle.node_table.proofs.Laws.{same_eq, eq_same, put_other, put_same, view_same}
 use Rattle.node_table.proofs.Ring.{walk_within, meets, Stop, Missed, seek_cases, used_set, used_free}
 
 -- ---- one place

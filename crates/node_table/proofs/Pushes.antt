@@ -1,17 +1,17 @@
 -- A push over sound memory is a push on the list, and leaves sound memory.
 -- Assumes nothing.
-use Rattle.std.proofs.Common.{◌≡◌, ℕ, zero, suc, ◌+◌, ◌-◌, ◌*◌, ◌/◌, ◌<◌, ◌≤◌, min, Bool, true, false, cond, eqb, ltb, ◌≢◌, ◌⊎◌, List, [], ◌∷◌, ◌++◌, length, get_or, set, sym, refl, ap, ◌∙◌, subst, inl, inr, ⊎_elim, arith, length-set, le-ltb, lt-ltb, eq-eqb, ne_eqb}
+use Rattle.std.proofs.Common.{◌≡◌, ℕ, zero, suc, ◌+◌, ◌-◌, ◌*◌, ◌<◌, ◌≤◌, ◌≢◌, ◌⊎◌, List, [], ◌∷◌, ◌++◌, length, get_or, sym, refl, ap, ◌∙◌, inl, inr, ⊎_elim, arith, le-ltb, lt-ltb, eq-eqb, ne_eqb}
 use mathlib.Core.Logic.{by_cases}
-use mathlib.Core.Option.{Option, none, some}
+use mathlib.Core.Option.{none, some}
 use native.Mathlib.Decide.{ℕ_discrete, dec_lt}
 use Rattle.ir.specs.Words.{Node, node_at}
-use Rattle.node_table.specs.Words.{put, same, view, lookup}
-use Rattle.node_table.specs.Table.{used, Table, find, room, Pushed, appended, push_at, push, Reached, Sound}
-use Rattle.node_table.specs.Model.{Listed, push_list, Follows}
+use Rattle.node_table.specs.Words.{same, view, lookup}
+use Rattle.node_table.specs.Table.{used, Table, find, room, appended, push_at, push, Sound}
+use Rattle.node_table.specs.Model.{push_list, Follows}
 use Rattle.laws.proofs.Cases.{by_test}
 use Rattle.laws.proofs.Tests.{clash}
 use Rattle.node_table.proofs.Laws.{same_eq, eq_same, view_length, lookup_absent, lookup_present}
-use Rattle.node_table.proofs.Places.{Fresh, present, absent, finds, append_sound, append_view}
+use Rattle.node_table.proofs.Places.{present, absent, finds, append_sound, append_view}
 
 pub is_there : (w : Node) (l : List ℕ) (n : ℕ) → ((i : ℕ) × (i < n) × (node_at l i ≡ w)) ⊎ ((i : ℕ) → i < n → node_at l i ≢ w)
 is_there w l zero = inr (λ i h e. omega arith)

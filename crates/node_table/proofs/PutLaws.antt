@@ -1,11 +1,10 @@
 -- The four ways out of `push`.
 -- Assumes nothing.
-use Rattle.std.proofs.Common.{◌≡◌, ℕ, suc, ◌+◌, ◌-◌, ◌/◌, ◌<◌, ◌≤◌, min, List, length, get_or, set, sym, refl, ap, ◌∙◌, add-one, arith}
-use mathlib.Core.Option.{Option, none, some}
+use Rattle.std.proofs.Common.{◌≡◌, ℕ, ◌+◌, ◌-◌, ◌/◌, ◌<◌, ◌≤◌, min, List, length, get_or, set, sym, refl, ap, ◌∙◌, add-one, arith}
 use Rattle.ir.specs.Words.{Node}
 use Rattle.node_table.specs.Words.{put}
 use Rattle.node_table.specs.Hashing.{start_of}
-use Rattle.node_table.specs.Table.{Table, table, find, room, Pushed, appended, push_at, push}
+use Rattle.node_table.specs.Table.{Table, table, find, Pushed, push_at, push}
 use Rattle.node_table.specs.Puts.{id_of, count_of, Pushes}
 use Rattle.node_table.specs.declared.table.Put.{Put}
 use Rattle.node_table.specs.declared.table.Put.TheVariants.{At, Full}

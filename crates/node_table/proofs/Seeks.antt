@@ -1,9 +1,9 @@
 -- One turn of the lookup's loop.
 -- Assumes nothing.
-use Rattle.std.proofs.Common.{◌≡◌, ℕ, zero, suc, ◌+◌, ◌-◌, ◌%◌, ◌<◌, ◌≤◌, Bool, true, false, cond, List, length, get_or, sym, refl, ap, ◌∙◌, subst, mod-lt, arith}
+use Rattle.std.proofs.Common.{◌≡◌, ℕ, zero, suc, ◌-◌, ◌%◌, ◌<◌, Bool, true, false, List, length, get_or, sym, refl, ap, ◌∙◌, mod-lt, arith}
 use Rattle.ir.specs.Words.{Node}
 use Rattle.node_table.specs.Hashing.{hash_of, start_of}
-use Rattle.node_table.specs.Table.{next, seek, stops, find, Table, table}
+use Rattle.node_table.specs.Table.{next, seek, stops, find, table}
 use Rattle.node_table.proofs.Ring.{next_low}
 
 module _ (test : ℕ → Bool) (k : ℕ) where

@@ -1,6 +1,6 @@
 -- The builder as the Rust has it: a list of nodes.
 -- Assumes nothing.
-use Rattle.std.specs.Prelude.{◌≡◌, ℕ, Bool, true, false, cond, List, [], ◌∷◌, ◌++◌, length, nat_lt}
+use Rattle.std.specs.Prelude.{◌≡◌, ℕ, cond, List, [], ◌∷◌, ◌++◌, length, nat_lt}
 use Rattle.std.proofs.Math.Option.{Option, none, some}
 use Rattle.ir.specs.Words.{Node}
 use Rattle.node_table.specs.Words.{view, lookup}

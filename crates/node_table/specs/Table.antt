@@ -1,7 +1,7 @@
 -- The hash places over lent words: 0 is free, i + 1 names node i. Open addressing, nothing is ever taken out. The probe is defined over
 -- any words, also words that no builder wrote.
 -- Assumes nothing.
-use Rattle.std.specs.Prelude.{◌≡◌, ℕ, zero, suc, ◌+◌, ◌-◌, ◌*◌, ◌/◌, ◌<◌, ◌≤◌, min, Bool, true, false, cond, ◌&&◌, ◌||◌, ◌≢◌, List, [], ◌∷◌, length, ◌==◌, nat_le, nat_lt, slice_index, slice_index_or, slice_set}
+use Rattle.std.specs.Prelude.{◌≡◌, ℕ, zero, suc, ◌+◌, ◌-◌, ◌/◌, ◌<◌, ◌≤◌, min, Bool, cond, ◌&&◌, ◌||◌, ◌≢◌, List, [], ◌∷◌, length, ◌==◌, nat_le, nat_lt, slice_index, slice_index_or, slice_set}
 use Rattle.std.proofs.Math.Option.{Option, none, some}
 use Rattle.ir.specs.Words.{Node, node_at}
 use Rattle.node_table.specs.Words.{put, same}

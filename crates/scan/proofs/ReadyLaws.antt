@@ -4,21 +4,20 @@ use mathlib.Core.Bool.{true, false, not}
 use mathlib.Core.List.{List, [], ◌∷◌, ◌++◌}
 use mathlib.Core.Logic.{by_cases}
 use mathlib.Core.Path.{◌≡◌, refl, sym, ap, ◌∙◌}
-use Prim.Native.Nat.{ℕ, zero, suc, ◌+◌, ◌-◌, ◌*◌, ◌<◌, ◌≤◌}
+use Prim.Native.Nat.{ℕ, zero, suc, ◌+◌, ◌*◌, ◌<◌, ◌≤◌}
 use native.Mathlib.Omega.{arith}
 use native.Mathlib.Decide.{ℕ_discrete}
 use native.Mathlib.Numerals.{add-one}
 use lib.Dec.{eqb, ltb}
-use lib.ListN.{length, get_or, set, take, drop, length-set, length-append, length-drop}
+use lib.ListN.{length, get_or, drop, length-set, length-append, length-drop}
 use lib.Seq.{sets, sets-eq, take_at, drop_at, drop-drop}
 use borrow.Author.Tests.{eq-eqb, ne_eqb, ltb-true, ltb-false}
-use Rattle.laws.specs.Maps.{upd}
 use Rattle.laws.proofs.Cases.{by_test}
 use Rattle.laws.proofs.Tests.{and_left}
 use Rattle.ir.specs.Words.{node_at}
 use Rattle.blob_rules.specs.Blob.{Instr}
 use Rattle.liveness.specs.Liveness.{has, operands, Liveness}
-use Rattle.scan_parts.specs.Scan.{Scan, pick, left, more, slot_word, encode, written, give, claim, scan, flat}
+use Rattle.scan_parts.specs.Scan.{Scan, pick, left, more, slot_word, encode, written, claim, scan, flat}
 use Rattle.scan_parts.specs.Pools.{stack, slots_in, Stands, ClassOk, EncOk, GiveOk, WordsOk, Spelt}
 use Rattle.scan.specs.Arrays.{ReleaseOk, Released, ClaimOk, Claimed, Wrote, Ready, Advanced, Begins, Scanned}
 use Rattle.liveness.specs.LiveLists.{listed, busy}

@@ -3,10 +3,9 @@
 use Rattle.scan_parts.proofs.SpellLaws.{w, operands_none, operands_two, operands_one}
 use mathlib.Core.List.{List}
 use mathlib.Core.Path.{◌≡◌, refl, sym, ap, ◌∙◌}
-use Prim.Native.Nat.{ℕ, ◌-◌, ◌*◌, ◌<◌, ◌≤◌}
+use Prim.Native.Nat.{ℕ, ◌*◌, ◌<◌, ◌≤◌}
 use native.Mathlib.Omega.{arith}
 use lib.ListN.{length}
-use Rattle.liveness.specs.Liveness.{operands}
 use Rattle.scan_parts.specs.Scan.{give}
 use Rattle.scan_parts.specs.Pools.{GiveOk, Gives}
 use Rattle.scan.specs.Arrays.{Released}

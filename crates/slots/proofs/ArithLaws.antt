@@ -1,31 +1,31 @@
 -- Operations on operands that stand for values.
 -- Assumes nothing.
-use mathlib.Core.Bool.{Bool, true, false, cond}
+use mathlib.Core.Bool.{cond}
 use mathlib.Core.List.{List, [], ◌∷◌}
 use mathlib.Core.Option.{Option, none, some, some-injective}
-use mathlib.Core.Path.{◌≡◌, refl, sym, ap, ◌∙◌}
-use Prim.Native.Nat.{ℕ, ◌+◌, ◌*◌, ◌%◌, ◌<◌, ◌≤◌}
+use mathlib.Core.Path.{◌≡◌, refl, ap}
+use Prim.Native.Nat.{ℕ, ◌+◌, ◌*◌, ◌<◌, ◌≤◌}
 use native.Mathlib.Omega.{arith}
 use lib.Dec.{eqb}
 use borrow.Author.Tests.{eqb-true, eqb-false}
 use Rattle.laws.proofs.Cases.{by_test}
-use Rattle.laws.specs.Options.{on1, on2, only_if, at}
+use Rattle.laws.specs.Options.{on1, on2, at}
 use Rattle.laws.proofs.Folds.{none_some}
 use Rattle.laws.proofs.Options.{only_some}
 use Rattle.field.specs.Base.{p, ◌≈◌, Is}
 use Rattle.field.specs.Base as Field
 use Rattle.extension.specs.Ext.{sums, minuses, product, Near, Limbs, LeastLimbs}
-use Rattle.extension.specs.Tower.{goldilocks, remainders}
+use Rattle.extension.specs.Tower.{goldilocks}
 use Rattle.field.proofs.Laws.{◌then◌, reduced, add≈, mul≈, minus≈, stands}
 use Rattle.extension.proofs.ExtLaws.{near_trans, limbs_stand, least_limbs, sums_near, minuses_near, product_near, remainders_near}
 use Rattle.ir.specs.declared.frame.Shape.{Shape}
-use Rattle.values.specs.Values.{Value, base, ext}
+use Rattle.values.specs.Values.{base, ext}
 use Rattle.values.specs.Room.{ValueIs}
 use Rattle.values.proofs.ValueLaws.{base_is, ext_is}
 use Rattle.blob_rules.specs.declared.blob.BlobCounts.{BlobCounts}
-use Rattle.blob_rules.specs.Blob.{is_ext, Binary, plus, minus, times, Form, binary, negation, embedding, tags, kinds}
-use Rattle.device.specs.StepRule.{Contents, Slots, base_operand, ext_operand, op₀, op₁, value_of}
-use Rattle.slots.specs.Steps.{Holds, Uniforms, ReadsBase, ReadsExt, instr, BaseGives, ExtGives}
+use Rattle.blob_rules.specs.Blob.{Binary, plus, minus, times, binary, tags, kinds}
+use Rattle.device.specs.StepRule.{base_operand, ext_operand, op₀, op₁}
+use Rattle.slots.specs.Steps.{ReadsBase, ReadsExt, BaseGives, ExtGives}
 
 -- ---- answers that are there
 

@@ -1,28 +1,25 @@
 -- Cells of a trace.
 -- Assumes nothing.
 use mathlib.Core.Bool.{Bool, true, false, cond, ◌&&◌}
-use mathlib.Core.List.{List, [], ◌∷◌}
-use mathlib.Core.Option.{Option, none, some, some-injective}
-use mathlib.Core.Path.{◌≡◌, refl, sym, ap, ◌∙◌}
-use Prim.Native.Nat.{ℕ, ◌+◌, ◌*◌, ◌/◌, ◌%◌, ◌<◌, ◌≤◌}
-use native.Mathlib.Nat.{mul-le-mul, le_refl, add-mul, one-mul, mul-one, mod-lt}
+use mathlib.Core.List.{List}
+use mathlib.Core.Option.{some, some-injective}
+use mathlib.Core.Path.{◌≡◌, refl, ap, ◌∙◌}
+use Prim.Native.Nat.{ℕ, ◌+◌, ◌*◌, ◌%◌, ◌<◌, ◌≤◌}
+use native.Mathlib.Nat.{mul-le-mul, le_refl, add-mul, one-mul, mul-one}
 use native.Mathlib.Omega.{arith}
 use lib.Dec.{eqb, ltb}
-use lib.ListN.{length, get_or}
 use borrow.Author.Tests.{ltb-true}
 use Rattle.laws.specs.Options.{only_if}
 use Rattle.laws.proofs.Folds.{none_some}
-use Rattle.laws.proofs.Options.{only_some}
 use Rattle.laws.proofs.Tests.{and_left, and_right}
 use Rattle.ir.specs.declared.frame.Shape.{Shape}
 use Rattle.ir.specs.Words.{main_of, offset_of, row_of}
 use Rattle.values.specs.Values.{Value, base, ext}
 use Rattle.values.specs.Frame.{word, triple}
 use Rattle.values.specs.Room.{ValueIs}
-use Rattle.device.specs.StepRule.{Contents, cell_of}
 use Rattle.blob_rules.specs.Check.{cell_ok}
 use Rattle.slots.specs.Trace.{row_at}
-use Rattle.slots.specs.Steps.{Cells, TraceLong, CellGives}
+use Rattle.slots.specs.Steps.{CellGives}
 
 -- a cell of a row is before the trace's end
 pub place_below : (r rows width col : ℕ) → r < rows → col < width → r * width + col < rows * width

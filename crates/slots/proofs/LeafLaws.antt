@@ -1,27 +1,25 @@
 -- What a leaf reads.
 -- Assumes nothing.
 use mathlib.Core.Bool.{Bool, true, false, not, ◌&&◌}
-use mathlib.Core.List.{List, [], ◌∷◌}
-use mathlib.Core.Option.{Option, none, some, some-injective}
-use mathlib.Core.Path.{◌≡◌, refl, sym, ap, ◌∙◌}
+use mathlib.Core.List.{List}
+use mathlib.Core.Option.{some, some-injective}
+use mathlib.Core.Path.{◌≡◌, refl}
 use Prim.Native.Nat.{ℕ, ◌<◌}
-use native.Mathlib.Omega.{arith}
 use lib.Dec.{eqb, ltb}
 use borrow.Author.Tests.{ltb-true}
 use Rattle.laws.specs.Options.{only_if, at}
 use Rattle.laws.proofs.Folds.{none_some}
 use Rattle.laws.proofs.Tests.{and_left}
-use Rattle.extension.specs.Tower.{goldilocks, remainders}
+use Rattle.extension.specs.Tower.{remainders}
 use Rattle.ir.specs.declared.frame.Shape.{Shape}
 use Rattle.ir.specs.Words.{main_of}
 use Rattle.values.specs.Values.{Value, base, ext}
 use Rattle.values.specs.Frame.{word, triple}
 use Rattle.values.specs.Room.{ValueIs}
 use Rattle.blob_rules.specs.declared.blob.BlobCounts.{BlobCounts}
-use Rattle.blob_rules.specs.Blob.{tags, kinds, base_consts, ext_consts, challenges, alphas, size_of}
-use Rattle.device.specs.StepRule.{Contents, Slots, cell_of, value_of}
-use Rattle.blob_rules.specs.Check.{Filled, cell_ok, form_ok, node_ok, slot_of_class}
-use Rattle.slots.specs.Steps.{Cells, Uniforms, CellGives, NodeLegal, instr, LeafGives}
+use Rattle.blob_rules.specs.Blob.{tags, kinds}
+use Rattle.blob_rules.specs.Check.{cell_ok, form_ok, node_ok, slot_of_class}
+use Rattle.slots.specs.Steps.{CellGives, NodeLegal, instr, LeafGives}
 use Rattle.slots.proofs.CellLaws.{one_value}
 
 -- by its tag, an index inside its table or a cell inside the frame

@@ -1,32 +1,31 @@
 -- What operand words read.
 -- Assumes nothing.
-use mathlib.Core.Bool.{Bool, true, false, cond, not, ◌&&◌}
-use mathlib.Core.List.{List, [], ◌∷◌}
+use mathlib.Core.Bool.{Bool, true, false}
+use mathlib.Core.List.{List}
 use mathlib.Core.Option.{Option, none, some, some-injective}
-use mathlib.Core.Path.{◌≡◌, refl, sym, ap, ◌∙◌}
-use Prim.Native.Nat.{ℕ, zero, suc, ◌+◌, ◌*◌, ◌<◌, ◌≤◌}
+use mathlib.Core.Path.{◌≡◌, refl}
+use Prim.Native.Nat.{ℕ, zero, suc, ◌*◌, ◌<◌, ◌≤◌}
 use native.Mathlib.Omega.{arith}
 use lib.Dec.{eqb, ltb}
-use lib.ListN.{length, get_or}
+use lib.ListN.{get_or}
 use borrow.Author.Tests.{ltb-true}
 use Rattle.laws.specs.Options.{after, on1, only_if, at}
 use Rattle.laws.proofs.Folds.{none_some}
-use Rattle.laws.proofs.Options.{only_some, after_some}
-use Rattle.laws.proofs.Tests.{clash, and_left, and_right}
-use Rattle.field.specs.Base.{p, ◌≈◌}
+use Rattle.laws.proofs.Tests.{clash, and_left}
+use Rattle.field.specs.Base.{◌≈◌}
 use Rattle.extension.specs.Ext.{embedded, Near, Limbs}
-use Rattle.extension.specs.Tower.{goldilocks, remainders}
-use Rattle.field.proofs.Laws.{refl≈, equal, reduced, ◌then◌}
+use Rattle.extension.specs.Tower.{goldilocks}
+use Rattle.field.proofs.Laws.{reduced}
 use Rattle.extension.proofs.ExtLaws.{near_trans, limbs_near, embedded_near, remainders_near}
 use Rattle.ir.specs.declared.frame.Shape.{Shape}
 use Rattle.values.specs.Values.{Value, base, ext, to_ext}
 use Rattle.values.specs.Frame.{word, triple}
 use Rattle.blob_rules.specs.declared.blob.BlobCounts.{BlobCounts}
 use Rattle.blob_rules.specs.Blob.{base_slots_of, ext_slots_of, kind_of, payload_of, kinds, tags}
-use Rattle.device.specs.StepRule.{Contents, Slots, only_base, held_by, operand, base_operand, ext_operand}
+use Rattle.device.specs.StepRule.{Slots, only_base, base_operand, ext_operand}
 use Rattle.blob_rules.specs.Check.{Filled, kind_ok, operand_ok}
-use Rattle.slots.specs.Slots.{ext_word, slot_words, limbs_at}
-use Rattle.slots.specs.Steps.{Holds, BaseLegal, ExtLegal, ReadsBase, ReadsExt, Uniforms, UniformsLong}
+use Rattle.slots.specs.Slots.{ext_word, limbs_at}
+use Rattle.slots.specs.Steps.{Holds, BaseLegal, ExtLegal, ReadsBase, ReadsExt}
 
 -- ---- a base operand
 

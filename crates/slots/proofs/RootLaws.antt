@@ -1,10 +1,10 @@
 -- The roots' values, read and written.
 -- Assumes nothing.
-use mathlib.Core.Bool.{Bool, true, false, cond, ◌&&◌}
-use mathlib.Core.List.{List, [], ◌∷◌}
+use mathlib.Core.Bool.{true, false, cond}
+use mathlib.Core.List.{List}
 use mathlib.Core.Option.{Option, none, some, some-injective}
-use mathlib.Core.Path.{◌≡◌, refl, sym, ap, ◌∙◌}
-use Prim.Native.Nat.{ℕ, suc, ◌+◌, ◌*◌, ◌<◌, ◌≤◌}
+use mathlib.Core.Path.{◌≡◌, refl, ap, ◌∙◌}
+use Prim.Native.Nat.{ℕ, ◌+◌, ◌*◌, ◌<◌, ◌≤◌}
 use native.Mathlib.Numerals.{add-one}
 use native.Mathlib.Omega.{arith}
 use lib.Dec.{ltb}
@@ -16,16 +16,15 @@ use Rattle.laws.specs.Options.{on1}
 use Rattle.laws.proofs.Folds.{none_some}
 use Rattle.laws.proofs.Tabulate.{tabulate_self}
 use Rattle.laws.proofs.Tests.{and_left}
-use Rattle.field.specs.Base.{◌≈◌}
-use Rattle.extension.specs.Ext.{limb, embedded, Near, Limbs, LeastLimbs}
+use Rattle.extension.specs.Ext.{limb, embedded, Limbs, LeastLimbs}
 use Rattle.extension.specs.Tower.{goldilocks, remainders}
 use Rattle.extension.proofs.ExtLaws.{near_trans, limbs_stand, limbs_exact, least_limbs, embedded_near, remainders_near}
 use Rattle.values.specs.Values.{Value, base, ext, to_ext}
 use Rattle.evaluation.specs.Evals.{base_word, ext_words, base_evals_of, ext_evals_of}
 use Rattle.blob_rules.specs.declared.blob.BlobCounts.{BlobCounts}
 use Rattle.blob_rules.specs.Blob.{base_slots_of, ext_slots_of, is_ext, slot_of}
-use Rattle.device.specs.StepRule.{Slots, root_held}
-use Rattle.slots.specs.Slots.{ext_word, slot_words, limbs_at}
+use Rattle.device.specs.StepRule.{Slots}
+use Rattle.slots.specs.Slots.{ext_word, limbs_at}
 use Rattle.slots.specs.Steps.{Holds, RootLegal, RootReads, RootWritten, RootsWritten}
 
 -- a root that the check let through names a slot that there is

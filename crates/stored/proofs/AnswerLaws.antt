@@ -1,6 +1,5 @@
 -- What writing and reading answer, test by test.
 -- Assumes nothing.
-use Rattle.stored_parts.proofs.WordLaws.{framing}
 use mathlib.Core.Bool.{Bool, true, false, not, ◌||◌}
 use mathlib.Core.List.{List}
 use mathlib.Core.Path.{◌≡◌, refl, sym, ap, ◌∙◌}
@@ -18,7 +17,7 @@ use Rattle.ir.specs.Refusals.{Said, said_of}
 use Rattle.blob_rules.specs.declared.blob.BlobCounts.{BlobCounts}
 use Rattle.stored.specs.declared.write.Stored.TheVariants as Stored
 use Rattle.stored.specs.declared.read.ReadStored.TheVariants as ReadStored
-use Rattle.stored_parts.specs.Form.{Tables, spread, named, body, distance, size, stored, trailer_words, misframed, trailer_word, counts_in, bad_framing, tables_in}
+use Rattle.stored_parts.specs.Form.{Tables, spread, named, body, distance, size, stored, trailer_words, trailer_word, counts_in, bad_framing, tables_in}
 use Rattle.stored_parts.specs.Rooms.{short_tables, Long, no_room}
 use Rattle.stored.specs.Answer.{write_said, WriteAnswer, put, read_said, ReadAnswer}
 use Rattle.stored.proofs.FormLaws.{runs, body_bytes}

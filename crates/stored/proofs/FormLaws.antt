@@ -3,9 +3,9 @@
 use Rattle.stored_parts.proofs.WordLaws.{spread_long, drop_none}
 use mathlib.Core.List.{List, ◌++◌}
 use mathlib.Core.Path.{◌≡◌, sym, ap, ◌∙◌}
-use Prim.Native.Nat.{ℕ, ◌+◌, ◌-◌, ◌*◌, ◌%◌, ◌≤◌}
+use Prim.Native.Nat.{ℕ, ◌+◌, ◌*◌, ◌%◌, ◌≤◌}
 use native.Mathlib.Omega.{arith}
-use lib.ListN.{length, set, take, drop, length-append, length-map}
+use lib.ListN.{length, take, drop, length-append, length-map}
 use lib.Seq.{sets, length-sets, length-take-le}
 use Rattle.laws.proofs.Parts.{sets_append}
 use Rattle.field.specs.Base.{p}

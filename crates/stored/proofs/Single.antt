@@ -10,9 +10,7 @@ use Rattle.ir.specs.Refusals.{Said, in_order}
 use Rattle.ir.proofs.Single.{refusal_of, known}
 use Rattle.blob_rules.specs.declared.blob.BlobCounts.{BlobCounts}
 use Rattle.stored.specs.declared.write.Stored.{Stored}
-use Rattle.stored.specs.declared.write.Stored.TheVariants as Stored
 use Rattle.stored.specs.declared.read.ReadStored.{ReadStored}
-use Rattle.stored.specs.declared.read.ReadStored.TheVariants as ReadStored
 use Rattle.stored_parts.specs.Form.{Tables}
 use Rattle.stored.specs.Answer.{write_rows, said_of_stored, WriteAnswer, read_rows, said_of_read, ReadAnswer}
 use Rattle.stored.proofs.AnswerLaws.{counts_said}

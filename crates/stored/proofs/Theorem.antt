@@ -12,9 +12,7 @@ use Rattle.little_endian.proofs.BytesLaws.{value_bytes}
 use Rattle.field.specs.Base.{p}
 use Rattle.blob_rules.specs.declared.blob.BlobCounts.{BlobCounts}
 use Rattle.stored.specs.declared.write.Stored.{Stored}
-use Rattle.stored.specs.declared.write.Stored.TheVariants as Stored
 use Rattle.stored.specs.declared.read.ReadStored.{ReadStored}
-use Rattle.stored.specs.declared.read.ReadStored.TheVariants as ReadStored
 use Rattle.stored_parts.specs.Form.{Tables, spread, words, below_p, distance, size, named, body, trailer_words, stored, trailer_word, counts_in, bad_framing, tables_in}
 use Rattle.stored_parts.specs.Rooms.{Long}
 use Rattle.stored.specs.Answer.{WriteAnswer, put, ReadAnswer}

@@ -6,9 +6,7 @@ use Rattle.std.proofs.lemmas.List.Edits.{sets}
 use Rattle.ir.specs.Refusals.{Said, Row, row, first, gives, said_of}
 use Rattle.blob_rules.specs.declared.blob.BlobCounts.{BlobCounts}
 use Rattle.stored.specs.declared.write.Stored.{Stored}
-use Rattle.stored.specs.declared.write.Stored.TheVariants as Stored
 use Rattle.stored.specs.declared.read.ReadStored.{ReadStored}
-use Rattle.stored.specs.declared.read.ReadStored.TheVariants as ReadStored
 use Rattle.stored_parts.specs.Form.{Tables, distance, size, stored, counts_in, bad_framing, tables_in}
 
 -- ---- writing

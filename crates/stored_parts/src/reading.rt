@@ -5,8 +5,8 @@ ghost use Rattle.stored_parts.specs.Form.{words, below_p, trailer_word, counts_i
 
 use super::form::{TRAILER_BYTES, body_words, is_misframed};
 use blob_rules::blob::BlobCounts;
-use little_endian::bytes::{u32_at, u64_at};
 use field::goldilocks::Fp;
+use little_endian::bytes::{u32_at, u64_at};
 
 pub fn read_words(file: &[u8], at: usize, count: usize, to: &mut [u32])
     requires { (at + 4 * count ≤ length file.now) × (count ≤ length to.old) }

@@ -4,8 +4,8 @@ ghost use Rattle.std.proofs.lemmas.List.Edits.{sets};
 ghost use Rattle.stored_parts.specs.Form.{spread, below_p, distance, trailer_words};
 
 use blob_rules::blob::BlobCounts;
-use little_endian::bytes::{put_u32, put_u64};
 use field::goldilocks::Fp;
+use little_endian::bytes::{put_u32, put_u64};
 
 pub fn write_words(out: &mut [u8], at: usize, count: usize, words: &[u32])
     requires { (at + 4 * count ≤ length out.old) × (count ≤ length words.now) }

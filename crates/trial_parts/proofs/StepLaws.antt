@@ -1,6 +1,6 @@
 -- A trial's steps: what is stored, what the tests say, and the room after the first i nodes.
 -- Assumes nothing.
-use mathlib.Core.Bool.{Bool, true, false, cond, ◌&&◌}
+use mathlib.Core.Bool.{true, ◌&&◌}
 use mathlib.Core.List.{List, [], ◌∷◌}
 use mathlib.Core.Path.{◌≡◌, refl, sym, ap, subst, ◌∙◌}
 use Prim.Native.Nat.{ℕ, suc, ◌+◌, ◌*◌, ◌<◌, ◌≤◌}
@@ -8,25 +8,25 @@ use native.Mathlib.Omega.{arith}
 use lib.Dec.{eqb, ltb}
 use lib.ListN.{length, get_or, set, take, drop}
 use lib.Seq.{sets, set-get_or, get_or-set_other, get_or-take, get_or-drop}
-use borrow.Author.Tests.{eqb-true, eqb-false, ltb-true, lt-ltb, le-ltb, eq-eqb, ne_eqb}
-use Rattle.laws.specs.Lists.{tabulate, block}
+use borrow.Author.Tests.{eqb-true, ltb-true, lt-ltb, eq-eqb, ne_eqb}
+use Rattle.laws.specs.Lists.{tabulate}
 use Rattle.laws.proofs.Blocks.{BlocksReplaced, blocks_more}
 use Rattle.laws.proofs.Cases.{by_test}
-use Rattle.laws.proofs.Tests.{clash, and_left, and_right}
+use Rattle.laws.proofs.Tests.{and_left, and_right}
 use Rattle.field.specs.Base.{p}
 use Rattle.extension.specs.Ext.{limb, scaled, embedded, product, Near, Limbs}
 use Rattle.extension.specs.Tower.{goldilocks}
 use Rattle.field.proofs.Laws.{refl≈, equal}
 use Rattle.extension.proofs.ExtLaws.{near_of, near_refl, near_sym, near_trans, limbs_stand, product_near, embedded_times, extension}
 use Rattle.ir.specs.declared.program.Counts.{Counts}
-use Rattle.ir.specs.Words.{Node, node_at}
+use Rattle.ir.specs.Words.{node_at}
 use Rattle.ir.specs.Program.{joined, operation_ok}
 use Rattle.values.specs.declared.frame.Limits.{Limits}
 use Rattle.values.specs.declared.frame.Strides.{Strides}
-use Rattle.values.specs.Values.{Value, ext, leaf_value, values}
+use Rattle.values.specs.Values.{ext, leaf_value, values}
 use Rattle.values.specs.Frame.{Lent, Fits, leaves}
 use Rattle.values.specs.Room.{Kept, ValueIs}
-use Rattle.trial_parts.specs.Trial.{Narrow, Tryable, leaf_limit, NodeFits, Tried}
+use Rattle.trial_parts.specs.Trial.{Tryable, leaf_limit, NodeFits, Tried}
 use Rattle.trial_parts.specs.Step.{Clear, LowRoom, LowLimbs, Standing, entry_of, EntryIn, operands_ok, Stepped}
 use Rattle.values.proofs.OperationLaws.{class_word}
 use Rattle.values.proofs.RunLaws.{value_at, value_computed, kept_value, Passed, operand, passed_all}

@@ -1,17 +1,16 @@
 -- The trial: what its tests say of a node, and the room that it copies.
 -- Assumes nothing.
-use mathlib.Core.Bool.{Bool, true, false, cond}
+use mathlib.Core.Bool.{true, false}
 use mathlib.Core.List.{List, ◌++◌}
 use mathlib.Core.Path.{◌≡◌, refl, sym, ap, subst, ◌∙◌}
 use Prim.Native.Nat.{ℕ, zero, suc, ◌+◌, ◌*◌, ◌/◌, ◌%◌, ◌<◌, ◌≤◌}
 use native.Mathlib.Nat.{zero-add}
 use native.Mathlib.Numerals.{add-one}
 use native.Mathlib.Omega.{arith}
-use lib.Dec.{eqb, leb, ltb}
+use lib.Dec.{eqb}
 use lib.ListN.{length, get_or, set, take, drop, replicate, length-drop, take-append-drop}
 use lib.Seq.{paste, paste-suc, length-paste, drop-paste, length-take-le, drop-append-le, take-append-le}
 use borrow.Author.Tests.{eqb-true, lt-ltb, le-ltb, lt-leb, eq-eqb, ne_eqb}
-use Rattle.laws.specs.Lists.{block}
 use Rattle.laws.proofs.Blocks.{block_before}
 use Rattle.laws.proofs.Cases.{by_test}
 use Rattle.laws.proofs.Tests.{clash}

@@ -1,14 +1,14 @@
 -- A step of a trial: what it asks of the room, and what it gives. Only inner functions cite this file: no public promise rests
 -- on it.
 -- Assumes nothing.
-use Rattle.std.specs.Prelude.{Bool, true, false, cond, ◌&&◌, List, ◌∷◌, ◌≡◌, ℕ, ◌+◌, ◌*◌, ◌<◌, ◌≤◌, eqb, ltb, length, get_or}
+use Rattle.std.specs.Prelude.{Bool, true, cond, ◌&&◌, List, ◌∷◌, ◌≡◌, ℕ, ◌+◌, ◌*◌, ◌<◌, ◌≤◌, eqb, ltb, length, get_or}
 use Rattle.std.proofs.lemmas.List.Edits.{sets}
 use Rattle.laws.specs.Lists.{tabulate}
 use Rattle.field.specs.Base.{p}
 use Rattle.extension.specs.Ext.{limb}
 use Rattle.extension.specs.Tower.{remainders}
 use Rattle.ir.specs.declared.program.Counts.{Counts}
-use Rattle.ir.specs.Words.{Node, node_at, const_ext, rap_challenge, alpha_pow, neg, embed}
+use Rattle.ir.specs.Words.{node_at, const_ext, rap_challenge, alpha_pow, neg, embed}
 use Rattle.ir.specs.Program.{joined}
 use Rattle.values.specs.declared.frame.Limits.{Limits}
 use Rattle.values.specs.declared.frame.Strides.{Strides}

@@ -7,7 +7,7 @@ use mathlib.Core.Path.{◌≡◌, refl, sym, subst}
 use Prim.Native.Nat.{ℕ, zero, suc, ◌/◌, ◌%◌, ◌<◌, ◌≤◌}
 use native.Mathlib.Omega.{arith}
 use lib.Dec.{eqb, ltb}
-use borrow.Author.Tests.{eqb-true, eqb-false, ltb-true, ltb-false, lt-ltb, le-ltb, eq-eqb, ne_eqb}
+use borrow.Author.Tests.{eqb-true, eqb-false, ltb-true, ltb-false, eq-eqb, ne_eqb}
 use Rattle.laws.proofs.Cases.{by_test}
 use Rattle.extension.specs.Tower.{Tower, goldilocks}
 use Rattle.ir.specs.declared.program.Counts.{Counts}
@@ -15,9 +15,9 @@ use Rattle.ir.specs.declared.frame.Shape.{Shape}
 use Rattle.ir.specs.Words.{node_at, main_of, offset_of}
 use Rattle.ir.specs.Program.{joined}
 use Rattle.ir.specs.WellFormed.{NodeFacts, WellFormed}
-use Rattle.values.specs.Values.{Value, base, ext, class_of, Leaves, to_ext, binop, unop, leaf_value, operation_value, node_value, values}
+use Rattle.values.specs.Values.{Value, base, ext, class_of, Leaves, binop, unop, leaf_value, operation_value, node_value, values}
 use Rattle.values.specs.Frame.{Lent, leaves, prover_strides, row_strides}
-use Rattle.values.proofs.RunLaws.{value_at, value_stays, value_computed}
+use Rattle.values.proofs.RunLaws.{value_stays, value_computed}
 
 module _ {B X : Type 0} (K : Tower B X) where
   binop_class : (f : B → B → B) (g : X → X → X) (v w : Value B X) → class_of (binop K f g v w) ≡ joined (class_of v) (class_of w)

@@ -2,27 +2,26 @@
 -- Assumes nothing.
 use mathlib.Core.Bool.{Bool, true, false, cond}
 use mathlib.Core.List.{List, [], ◌∷◌}
-use mathlib.Core.Logic.{◌⊎◌, ⊎_elim}
 use mathlib.Core.Path.{◌≡◌, refl, sym, ap, ◌∙◌}
 use Prim.Native.Nat.{ℕ, ◌+◌, ◌*◌, ◌%◌, ◌<◌, ◌≤◌}
 use native.Mathlib.Nat.{add-zero}
 use native.Mathlib.Omega.{arith}
 use lib.Dec.{eqb, lit<}
-use lib.ListN.{length, get_or, take, drop}
+use lib.ListN.{get_or, take, drop}
 use lib.Seq.{get_or-take, get_or-drop, drop-drop}
 use borrow.Author.Tests.{eqb-true, eqb-false, lt-ltb, le-ltb}
 use Rattle.laws.specs.Lists.{block}
 use Rattle.laws.proofs.Cases.{by_test}
 use Rattle.field.specs.Base.{p, ◌≈◌, Is, minus}
-use Rattle.extension.specs.Ext.{limb, sums, minuses, embedded, product, Near, Limbs, LeastLimbs}
+use Rattle.extension.specs.Ext.{limb, minuses, embedded, Near, Limbs, LeastLimbs}
 use Rattle.extension.specs.Tower.{goldilocks, remainders}
-use Rattle.field.proofs.Laws.{refl≈, sym≈, ◌then◌, equal, reduced, add≈, mul≈, minus≈, stands}
+use Rattle.field.proofs.Laws.{◌then◌, equal, reduced, add≈, mul≈, minus≈, stands}
 use Rattle.extension.proofs.ExtLaws.{near_trans, limbs_stand, least_limbs, sums_near, minuses_near, product_near, remainders_near, near_sym, limb_embedded}
-use Rattle.values.specs.Values.{Value, base, ext, class_of, to_ext, binop, unop, leaf_value, operation_value, node_value}
+use Rattle.values.specs.Values.{Value, base, ext, binop, unop, leaf_value, operation_value, node_value}
 use Rattle.values.specs.declared.frame.Strides.{Strides}
 use Rattle.values.specs.Frame.{Lent, leaves}
 use Rattle.values.specs.Room.{Stands, ValueIs}
-use Rattle.values.specs.Operations.{base_op, ext_op, StandsIn, Operates, Computes}
+use Rattle.values.specs.Operations.{base_op, ext_op, Operates, Computes}
 use Rattle.values.proofs.ValueLaws.{base_is, ext_is}
 
 -- ---- a node's words in the room

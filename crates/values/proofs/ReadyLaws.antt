@@ -1,6 +1,6 @@
 -- From what the refusals let through to what the pass over the nodes asks.
 -- Assumes nothing.
-use mathlib.Core.Bool.{Bool, true, false, cond, ◌||◌}
+use mathlib.Core.Bool.{false, cond}
 use mathlib.Core.List.{List}
 use mathlib.Core.Option.{none}
 use mathlib.Core.Path.{◌≡◌, refl, ap, ◌∙◌}
@@ -20,7 +20,7 @@ use Rattle.ir.specs.Words.{node_at, main_of, offset_of}
 use Rattle.ir.specs.WellFormed.{NodeFacts, WellFormed}
 use Rattle.values.specs.declared.frame.Limits.{Limits}
 use Rattle.values.specs.declared.frame.Strides.{Strides}
-use Rattle.values.specs.Frame.{Lent, cell_outside, outside, node_outside, MainIn, CellIn, LeafIn, Fits, prover_strides, verifier_strides, row_strides, frame_limits, row_limits}
+use Rattle.values.specs.Frame.{Lent, cell_outside, outside, node_outside, CellIn, LeafIn, Fits, prover_strides, verifier_strides, row_strides, frame_limits, row_limits}
 use Rattle.values.specs.Operations.{NodeReady, Ready}
 
 module _ (s : Strides) (m : Limits) (c : Counts) (l : Lent) (f : Fits s m c l) where

@@ -1,26 +1,25 @@
 -- The pass over the nodes: values stay once computed, and what is stored stands for them.
 -- Assumes nothing.
-use mathlib.Core.List.{List, [], ◌∷◌}
-use mathlib.Core.Path.{◌≡◌, refl, sym, subst, ◌∙◌}
+use mathlib.Core.List.{List, ◌∷◌}
+use mathlib.Core.Path.{◌≡◌, refl, subst, ◌∙◌}
 use Prim.Native.Nat.{ℕ, zero, suc, ◌+◌, ◌*◌, ◌<◌, ◌≤◌}
 use native.Mathlib.Decide.{le_ind}
-use native.Mathlib.Numerals.{add-one}
 use native.Mathlib.Omega.{arith}
 use lib.Dec.{lit<}
 use lib.ListN.{length, get_or, drop}
 use lib.Seq.{sets, get_or-take, get_or-drop}
-use Rattle.laws.specs.Lists.{tabulate, block}
+use Rattle.laws.specs.Lists.{tabulate}
 use Rattle.laws.proofs.Blocks.{BlocksReplaced, blocks_more}
 use Rattle.laws.proofs.Maps.{upd_here, upd_other}
 use Rattle.field.specs.Base.{p}
-use Rattle.extension.specs.Ext.{limb, Limbs}
+use Rattle.extension.specs.Ext.{limb}
 use Rattle.extension.specs.Tower.{Tower, goldilocks}
 use Rattle.extension.proofs.ExtLaws.{limbs_near, kept_limbs}
 use Rattle.ir.specs.Words.{node_at}
 use Rattle.values.specs.declared.frame.Strides.{Strides}
 use Rattle.values.specs.Values.{Value, base, ext, class_of, Leaves, node_value, values}
 use Rattle.values.specs.Frame.{Lent, leaves}
-use Rattle.values.specs.Room.{Stands, ValueIs, Low, Kept, RoomHolds}
+use Rattle.values.specs.Room.{ValueIs, Kept, RoomHolds}
 use Rattle.values.specs.Operations.{StandsIn, LowBefore, Computes, NodeReady}
 
 -- ---- a value, once computed, stays

@@ -3,21 +3,19 @@
 use mathlib.Core.Bool.{Bool, true, false}
 use mathlib.Core.Path.{◌≡◌, refl}
 use mathlib.Core.List.{List, [], ◌∷◌}
-use Prim.Native.Nat.{ℕ, ◌+◌, ◌*◌, ◌/◌, ◌%◌, ◌<◌}
+use Prim.Native.Nat.{ℕ, ◌/◌, ◌%◌, ◌<◌}
 use native.Mathlib.Omega.{arith}
-use lib.Dec.{lit<}
 use borrow.Author.Tests.{eq-eqb, ne_eqb}
 use Rattle.ir.specs.Words.{main_of}
 use Rattle.laws.specs.Lists.{block}
 use Rattle.laws.proofs.Cases.{by_test}
-use Rattle.field.specs.Base.{p, ◌≈◌, Is, Least, minus}
-use Rattle.extension.specs.Ext.{limb, sums, minuses, embedded, product, Near, Limbs, LeastLimbs}
-use Rattle.extension.specs.Tower.{goldilocks, remainders}
-use Rattle.field.proofs.Laws.{refl≈, sym≈, ◌then◌, reduced, add≈, mul≈, minus≈, stands, least_stands, zero_is}
-use Rattle.extension.proofs.ExtLaws.{near_refl, near_sym, near_trans, limbs_of_lem, limbs_stand, least_limbs, limbs_near, sums_near, minuses_near, product_near, embedded_near, remainders_near, limb_embedded}
-use Rattle.values.specs.Values.{Value, base, ext, binop, unop}
+use Rattle.field.specs.Base.{Is}
+use Rattle.extension.specs.Ext.{embedded, Limbs, LeastLimbs}
+use Rattle.field.proofs.Laws.{zero_is}
+use Rattle.extension.proofs.ExtLaws.{limbs_of_lem, limbs_stand, least_limbs, remainders_near}
+use Rattle.values.specs.Values.{base, ext}
 use Rattle.values.specs.Frame.{triple, MainIn}
-use Rattle.values.specs.Room.{Stands, ValueIs}
+use Rattle.values.specs.Room.{ValueIs}
 
 -- a base word, embedded
 embedded_limbs : {b r : ℕ} → Is b r → Limbs 3 (embedded 3 b) (r ∷ 0 ∷ 0 ∷ [])

@@ -1,6 +1,6 @@
 -- The frame: what each evaluator reads for a leaf, and when a leaf is outside.
 -- Assumes nothing.
-use Rattle.std.specs.Prelude.{Bool, true, false, cond, ◌||◌, List, [], ◌∷◌, ◌≡◌, ℕ, ◌+◌, ◌*◌, ◌%◌, ◌<◌, ◌≤◌, eqb, leb, ltb, length, get_or}
+use Rattle.std.specs.Prelude.{Bool, true, false, cond, ◌||◌, List, [], ◌∷◌, ◌≡◌, ℕ, ◌+◌, ◌*◌, ◌%◌, ◌<◌, ◌≤◌, eqb, leb, length, get_or}
 use Rattle.laws.specs.Lists.{block}
 use Rattle.field.specs.Base.{p}
 use Rattle.extension.specs.Tower.{remainders}

@@ -1,7 +1,7 @@
 -- The value of each node of a program, over any tower: one definition for the three evaluators, which differ in how a
 -- leaf is read. A value's class follows its operands: base where all of them are base; Embed is extension.
 -- Assumes nothing.
-use Rattle.std.specs.Prelude.{Bool, cond, List, ℕ, zero, suc, eqb, ltb}
+use Rattle.std.specs.Prelude.{cond, List, ℕ, zero, suc, eqb, ltb}
 use Rattle.laws.specs.Maps.{upd}
 use Rattle.extension.specs.Tower.{Tower}
 use Rattle.ir.specs.Words.{node_at, const_base, const_ext, var, rap_challenge, alpha_pow, add, sub, mul, neg, main_of, offset_of}

@@ -1,25 +1,21 @@
 -- A node that the check let through: its operands, and its value.
 -- Assumes nothing.
-use mathlib.Core.Bool.{Bool, true, false, not, ◌&&◌}
-use mathlib.Core.List.{List, [], ◌∷◌}
-use mathlib.Core.Option.{Option, none, some}
-use mathlib.Core.Path.{◌≡◌, refl, sym, ap, ◌∙◌}
-use Prim.Native.Nat.{ℕ, ◌+◌, ◌*◌, ◌<◌, ◌≤◌}
+use mathlib.Core.Bool.{Bool, true, false, ◌&&◌}
+use mathlib.Core.Path.{◌≡◌, refl, sym, ◌∙◌}
+use Prim.Native.Nat.{ℕ, ◌<◌, ◌≤◌}
 use native.Mathlib.Omega.{arith}
 use lib.Dec.{eqb, ltb}
-use lib.ListN.{length, get_or}
 use borrow.Author.Tests.{ltb-true, ltb-false}
 use Rattle.laws.specs.Options.{at}
 use Rattle.laws.proofs.Cases.{by_test}
 use Rattle.laws.proofs.Tests.{clash, and_left, and_right}
 use Rattle.ir.specs.declared.frame.Shape.{Shape}
-use Rattle.values.specs.Room.{ValueIs}
 use Rattle.blob_rules.specs.declared.blob.BlobCounts.{BlobCounts}
 use Rattle.blob_rules.specs.Blob.{is_ext, slot_of, base_slots_of, ext_slots_of, tags, kinds}
-use Rattle.blob_rules.specs.Check.{Filled, slot_in, slot_of_class, operand_ok, form_ok, node_ok}
+use Rattle.blob_rules.specs.Check.{Filled, slot_in, slot_of_class, operand_ok, form_ok}
 use Rattle.blob_rules.proofs.CheckLaws.{node_unknown, node_by}
 use Rattle.device.proofs.Theorem.{by_operation}
-use Rattle.slots.specs.Steps.{NodeLegal, instr, BaseLegal, ExtLegal, BaseGives, ExtGives, OperationGives, Uniforms}
+use Rattle.slots.specs.Steps.{NodeLegal, instr, BaseLegal, ExtLegal}
 
 -- what the check tells of an operation's operands
 pub record OperandsLegal (c : BlobCounts) (s : Shape) (op a b res : ℕ) : Type 0 where

@@ -1,10 +1,10 @@
 -- The slot room, value by value.
 -- Assumes nothing.
-use mathlib.Core.Bool.{Bool, true, false, cond, not, ◌&&◌}
+use mathlib.Core.Bool.{false, not, ◌&&◌}
 use mathlib.Core.List.{List, [], ◌∷◌}
-use mathlib.Core.Option.{Option, none, some, some-injective}
-use mathlib.Core.Path.{◌≡◌, refl, sym, ap, subst, ◌∙◌}
-use Prim.Native.Nat.{ℕ, ◌+◌, ◌*◌, ◌%◌, ◌<◌, ◌≤◌}
+use mathlib.Core.Option.{Option, some, some-injective}
+use mathlib.Core.Path.{◌≡◌, sym, ap, subst, ◌∙◌}
+use Prim.Native.Nat.{ℕ, ◌+◌, ◌<◌, ◌≤◌}
 use native.Mathlib.Nat.{add-zero}
 use native.Mathlib.Omega.{arith}
 use lib.Dec.{eqb, ltb, lit<}
@@ -13,20 +13,18 @@ use lib.Seq.{sets, length-sets, get_or-set_same, get_or-set_other, drop-set-lt, 
 use borrow.Author.Tests.{eqb-true, eqb-false, ltb-true, ltb-false}
 use Rattle.laws.specs.Lists.{tabulate}
 use Rattle.laws.specs.Maps.{upd}
-use Rattle.laws.specs.Options.{only_if}
 use Rattle.laws.proofs.Blocks.{block_before}
 use Rattle.laws.proofs.Cases.{by_test}
 use Rattle.laws.proofs.Folds.{none_some}
 use Rattle.laws.proofs.Maps.{upd_here, upd_other}
 use Rattle.laws.proofs.Options.{only_some}
 use Rattle.laws.proofs.Parts.{sets_here, sets_before, sets_after}
-use Rattle.laws.proofs.Tests.{clash, and_left, and_right}
-use Rattle.field.specs.Base.{p, ◌≈◌, Is}
-use Rattle.extension.specs.Ext.{limb, embedded, Near, Limbs}
-use Rattle.extension.specs.Tower.{goldilocks, remainders}
-use Rattle.field.proofs.Laws.{sym≈, equal, reduced, ◌then◌}
-use Rattle.extension.proofs.ExtLaws.{limbs_near, kept_limbs, near_trans, near_sym, remainders_near, limb_embedded}
-use Rattle.values.specs.Values.{Value, base, ext, to_ext}
+use Rattle.laws.proofs.Tests.{and_left, and_right}
+use Rattle.field.specs.Base.{p, ◌≈◌}
+use Rattle.extension.specs.Ext.{limb, Near, Limbs}
+use Rattle.field.proofs.Laws.{equal, ◌then◌}
+use Rattle.extension.proofs.ExtLaws.{limbs_near, kept_limbs}
+use Rattle.values.specs.Values.{Value, base, ext}
 use Rattle.values.specs.Room.{ValueIs}
 use Rattle.values.proofs.OperationLaws.{base_word}
 use Rattle.blob_rules.specs.declared.blob.BlobCounts.{BlobCounts}
@@ -34,7 +32,7 @@ use Rattle.blob_rules.specs.Blob.{base_slots_of, ext_slots_of, is_ext, slot_of}
 use Rattle.device.specs.StepRule.{Slots, put}
 use Rattle.device.proofs.Exact.{not_held}
 use Rattle.slots.specs.Slots.{ext_word, slot_words, limbs_at}
-use Rattle.slots.specs.Steps.{Holds, stored, RoomKept}
+use Rattle.slots.specs.Steps.{stored, RoomKept}
 
 -- ---- words in a row
 

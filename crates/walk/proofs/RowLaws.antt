@@ -1,12 +1,11 @@
 -- The pass over the nodes of one row.
 -- Assumes nothing.
-use mathlib.Core.Bool.{Bool, true, false}
-use mathlib.Core.List.{List, [], ◌∷◌}
-use mathlib.Core.Option.{Option, none, some, some-injective}
-use mathlib.Core.Path.{◌≡◌, refl, sym, ap, ◌∙◌}
-use Prim.Native.Nat.{ℕ, suc, ◌+◌, ◌*◌, ◌<◌, ◌≤◌}
+use mathlib.Core.List.{List}
+use mathlib.Core.Option.{none, some, some-injective}
+use mathlib.Core.Path.{◌≡◌, refl, ap, ◌∙◌}
+use Prim.Native.Nat.{ℕ, ◌+◌, ◌≤◌}
 use native.Mathlib.Numerals.{add-one}
-use lib.ListN.{length, get_or}
+use lib.ListN.{length}
 use Rattle.laws.specs.Options.{after}
 use Rattle.laws.proofs.Folds.{none_some}
 use Rattle.laws.proofs.Options.{after_some}
@@ -15,10 +14,10 @@ use Rattle.ir.specs.declared.frame.Shape.{Shape}
 use Rattle.values.specs.Frame.{Lent}
 use Rattle.blob_rules.specs.declared.blob.BlobCounts.{BlobCounts}
 use Rattle.blob_rules.specs.Blob.{Instr, instr_at, tags, kinds}
-use Rattle.device.specs.StepRule.{Slots, value_of, put, step, slots_after}
+use Rattle.device.specs.StepRule.{value_of, put, step, slots_after}
 use Rattle.slots.specs.Slots.{slot_words}
 use Rattle.slots.specs.Trace.{contents}
-use Rattle.slots.specs.Steps.{Holds, Uniforms, Cells, LeafGives, OperationGives, NodeGives, RoomKept, StepStores, RowWalked, instr}
+use Rattle.slots.specs.Steps.{Uniforms, Cells, LeafGives, OperationGives, NodeGives, StepStores, RowWalked, instr}
 use Rattle.walk.proofs.RoomLaws.{kept_put, stored_long}
 
 -- ---- a node's value

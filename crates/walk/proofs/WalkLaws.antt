@@ -1,18 +1,16 @@
 -- From the check and the walk of a row to what the walk promises.
 -- Assumes nothing.
-use mathlib.Core.Bool.{Bool, true, false, cond, not, ◌&&◌, ◌||◌}
+use mathlib.Core.Bool.{Bool, true, false, not, ◌&&◌, ◌||◌}
 use mathlib.Core.List.{List, [], ◌∷◌, ◌++◌}
 use mathlib.Core.Option.{Option, none, some}
 use mathlib.Core.Path.{◌≡◌, refl, sym, ap, ◌∙◌}
 use Prim.Native.Nat.{ℕ, ◌+◌, ◌*◌, ◌<◌, ◌≤◌, min}
 use native.Mathlib.Omega.{arith}
 use lib.Dec.{ltb, lit<}
-use lib.ListN.{length, get_or, take, drop, replicate, length-replicate, get_or-replicate, get_or-append}
-use lib.Seq.{get_or-take, get_or-drop}
+use lib.ListN.{length, get_or, drop, replicate, length-replicate, get_or-replicate, get_or-append}
 use borrow.Author.Tests.{ltb-false, lt-ltb}
-use Rattle.laws.specs.Folds.{lowest, or_else}
-use Rattle.laws.specs.Options.{missing}
-use Rattle.laws.proofs.Folds.{none_some, or_none_left, or_none_right, lowest_none}
+use Rattle.laws.specs.Folds.{lowest}
+use Rattle.laws.proofs.Folds.{or_none_left, or_none_right, lowest_none}
 use Rattle.laws.proofs.Blocks.{block_before}
 use Rattle.laws.proofs.Cases.{by_three}
 use Rattle.laws.proofs.Options.{present}
@@ -21,24 +19,24 @@ use Rattle.laws.proofs.Tests.{clash, or_left, or_right, not_not}
 use Rattle.field.specs.Base.{p, ◌≈◌}
 use Rattle.extension.specs.Ext.{limb, Near}
 use Rattle.extension.specs.Tower.{goldilocks}
-use Rattle.field.proofs.Laws.{refl≈, equal}
+use Rattle.field.proofs.Laws.{equal}
 use Rattle.extension.proofs.ExtLaws.{near_refl}
 use Rattle.ir.specs.declared.frame.Shape.{Shape}
 use Rattle.ir.specs.declared.refusal.Outcome.{Outcome}
 use Rattle.ir.specs.declared.refusal.Outcome.TheVariants.{Done, Refused}
 use Rattle.ir.specs.declared.refusal.Refusal.{Refusal}
 use Rattle.ir.specs.Shape.{over_shape}
-use Rattle.ir.specs.Refusals.{Said, Row, found, first, any_holds, gives, said_of, said_of_outcome}
+use Rattle.ir.specs.Refusals.{Row, found, first, any_holds, gives, said_of_outcome}
 use Rattle.ir.proofs.ProgramLaws.{within}
-use Rattle.ir.proofs.RefusalLaws.{not_found, numbered, done_rows, loud_rows, first_loud, first_quiet, first_none}
+use Rattle.ir.proofs.RefusalLaws.{not_found, done_rows, loud_rows, first_loud, first_quiet, first_none}
 use Rattle.values.specs.Values.{Value}
 use Rattle.values.specs.Frame.{Lent}
 use Rattle.evaluation.proofs.RefuseLaws.{any_append}
 use Rattle.evaluation.proofs.RefuseLaws.{cells_small}
 use Rattle.blob_rules.specs.declared.blob.BlobCounts.{BlobCounts}
-use Rattle.blob_rules.specs.Blob.{Blob, num_base_of, base_slots_of, ext_slots_of, tags, kinds, instr_at, is_ext, slot_of}
-use Rattle.device.specs.StepRule.{Contents, Slots, slots_after, root_held}
-use Rattle.blob_rules.specs.Check.{node_ok, root_ok, filled_after, illegal, ext_root, legal_rows, short_check, slot_count, cleared}
+use Rattle.blob_rules.specs.Blob.{Blob, num_base_of, base_slots_of, ext_slots_of, tags, kinds, instr_at}
+use Rattle.device.specs.StepRule.{Contents, Slots, root_held}
+use Rattle.blob_rules.specs.Check.{node_ok, root_ok, filled_after, illegal, ext_root, legal_rows, short_check, cleared}
 use Rattle.blob_rules.specs.Marks.{LegalChecked}
 use Rattle.device.proofs.Exact.{Through, through, root_stops}
 use Rattle.device.proofs.CallLaws.{LongEnough, long_enough}
@@ -46,8 +44,8 @@ use Rattle.blob_rules.proofs.MarkLaws.{bad_node, cleared_rest, cleared_long}
 use Rattle.walk.specs.declared.walk.FrameLengths.{FrameLengths}
 use Rattle.slots.specs.Slots.{ext_word, slot_words, limbs_at, held_word, held_limbs, SlotsEnd}
 use Rattle.slots.specs.Trace.{contents}
-use Rattle.walk.specs.Walk.{short_frame, short_walk, short_evals, room_rows, memory_rows, walk_rows, frame_lengths, value_or, final_slots, root_values, WalkAnswer}
-use Rattle.slots.specs.Steps.{NodesLegal, UniformsLong, TraceLong, LentLong, RootLegal, RootPlace, RootsReady, RoomKept, RowWalked, RootsWritten, RowReady, RowDone, FrameWalked}
+use Rattle.walk.specs.Walk.{short_frame, short_walk, short_evals, memory_rows, walk_rows, frame_lengths, value_or, final_slots, root_values, WalkAnswer}
+use Rattle.slots.specs.Steps.{RootPlace, RoomKept, RowWalked, RootsWritten, RowReady, RowDone, FrameWalked}
 
 -- a blob from what was lent
 abbrev pub blob_of : BlobCounts → List ℕ → List ℕ → Blob

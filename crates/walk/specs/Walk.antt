@@ -1,19 +1,19 @@
 -- The walk over a blob: its refusals in document 01's order, and what it leaves.
 -- Assumes nothing.
-use Rattle.std.specs.Prelude.{Bool, true, false, cond, ◌&&◌, ◌||◌, List, [], ◌∷◌, ◌++◌, ◌≡◌, ℕ, ◌+◌, ◌*◌, min, ltb, length}
+use Rattle.std.specs.Prelude.{Bool, true, false, cond, ◌&&◌, ◌||◌, List, [], ◌∷◌, ◌++◌, ◌≡◌, ℕ, ◌*◌, min, ltb, length}
 use Rattle.std.proofs.Math.Option.{Option, none, some}
 use Rattle.extension.specs.Tower.{goldilocks}
 use Rattle.ir.specs.declared.frame.Shape.{Shape}
 use Rattle.ir.specs.declared.refusal.Outcome.{Outcome}
 use Rattle.ir.specs.Shape.{over_shape}
-use Rattle.ir.specs.Refusals.{Said, Row, row, first, any_holds, gives, said_of_outcome}
+use Rattle.ir.specs.Refusals.{Row, row, first, any_holds, gives, said_of_outcome}
 use Rattle.values.specs.Values.{Value}
 use Rattle.values.specs.Values as Values
 use Rattle.values.specs.Frame.{Lent}
 use Rattle.evaluation.specs.Evals.{base_evals_of, ext_evals_of}
 use Rattle.blob_rules.specs.declared.blob.BlobCounts.{BlobCounts}
-use Rattle.blob_rules.specs.Blob.{Blob, base_slots_of, ext_slots_of, num_base_of, tags, kinds}
-use Rattle.device.specs.StepRule.{Contents, Slots, slots_after, root_held}
+use Rattle.blob_rules.specs.Blob.{Blob, num_base_of, tags, kinds}
+use Rattle.device.specs.StepRule.{Slots, slots_after, root_held}
 use Rattle.blob_rules.specs.Check.{short_check, legal_rows, slot_count, cleared}
 use Rattle.walk.specs.declared.walk.FrameLengths.{FrameLengths}
 use Rattle.slots.specs.Slots.{slot_words, SlotsEnd}

@@ -35,14 +35,14 @@ fn line(name: &str, numbers: impl IntoIterator<Item = impl ToString>) -> String 
     format!("{name} {}\n", words.join(" "))
 }
 
-/// Where `rt check blob_list` puts the program; where it is not there, what to do.
+/// Where `./run` puts the program; where it is not there, what to do.
 pub fn program() -> Result<PathBuf, String> {
     let program = Path::new(env!("CARGO_MANIFEST_DIR")).join("../../target/bin/blob_list");
     if program.is_file() {
         return Ok(program);
     }
     Err(format!(
-        "{} is not there: `rt check blob_list` in the project's root builds it",
+        "{} is not there: `./run` in the project's root builds it",
         program.display()
     ))
 }

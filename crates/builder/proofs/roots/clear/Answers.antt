@@ -1,5 +1,4 @@
 use native.Mathlib.Omega.{arith}
-use Prim.Native.Nat.{◌-◌}
 use Rattle.builder.proofs.RootLaws.{clearing_start, clearing_more, clearing_end}
 use Rattle.builder.proofs.roots.clear.Goals as goal
 

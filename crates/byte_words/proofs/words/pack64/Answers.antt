@@ -4,7 +4,6 @@ use Rattle.stored_parts.specs.Form.{spread}
 use native.Mathlib.Omega.{arith}
 use lib.ListN.{take}
 use mathlib.Core.Path.{refl}
-use Prim.Native.Nat.{◌-◌}
 use Rattle.byte_words.proofs.words.pack64.Goals as goal
 
 pub loop-i-init : goal.loop-i-init

@@ -4,7 +4,7 @@ use Rattle.stored_parts.specs.Form.{words}
 use native.Mathlib.Omega.{arith}
 use lib.ListN.{length}
 use mathlib.Core.Path.{◌≡◌, refl}
-use Prim.Native.Nat.{◌-◌, ◌/◌}
+use Prim.Native.Nat.{◌/◌}
 use Rattle.byte_words.proofs.words.unpack32.Goals as goal
 
 pub loop-i-init : goal.loop-i-init

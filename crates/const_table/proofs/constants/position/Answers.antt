@@ -1,5 +1,4 @@
 use native.Mathlib.Omega.{arith}
-use Prim.Native.Nat.{◌-◌}
 use Rattle.const_table.specs.Positions.{position_of}
 use Rattle.const_table.proofs.PositionLaws.{scanning_start, scanning_more, scanning_here, scanning_end}
 use Rattle.const_table.proofs.constants.position.Goals as goal

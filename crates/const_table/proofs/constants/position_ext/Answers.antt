@@ -1,6 +1,5 @@
 use native.Mathlib.Omega.{arith}
-use Prim.Native.Nat.{◌-◌}
-use Rattle.const_table.specs.Positions.{same_ext, ext_position_of}
+use Rattle.const_table.specs.Positions.{ext_position_of}
 use Rattle.const_table.proofs.PositionLaws.{scanning_start, scanning_more, scanning_here, scanning_end}
 use Rattle.const_table.proofs.constants.position_ext.Goals as goal
 

@@ -1,8 +1,7 @@
-use Prim.Native.Nat.{◌+◌, ◌-◌}
+use Prim.Native.Nat.{◌+◌}
 use mathlib.Core.Path.{◌≡◌, refl, sym}
 use native.Mathlib.Omega.{arith}
 use Rattle.laws.proofs.Folds.{lowest_start, lowest_on, lowest_at, lowest_stays}
-use Rattle.blob_rules.specs.Check.{root_ok}
 use borrow.Author.Rules.{rules}
 use Rattle.device.proofs.check.lowest_bad_root.Invariants.{bad}
 use Rattle.device.proofs.check.lowest_bad_root.Goals as goal

@@ -1,8 +1,7 @@
-use Prim.Native.Nat.{◌+◌, ◌-◌}
+use Prim.Native.Nat.{◌+◌}
 use mathlib.Core.Path.{◌≡◌, sym}
 use native.Mathlib.Omega.{arith}
 use Rattle.laws.proofs.Folds.{lowest_start, lowest_on, lowest_at, lowest_stays}
-use Rattle.blob_rules.specs.Blob.{is_ext}
 use Rattle.blob_rules.specs.Check.{ext_root}
 use Rattle.device.proofs.check.lowest_ext_root.Invariants.{bad}
 use Rattle.device.proofs.check.lowest_ext_root.Goals as goal

@@ -1,7 +1,6 @@
 use Rattle.evaluation.proofs.EvalLaws.{writes_none, writes_more}
 use native.Mathlib.Omega.{arith}
 use mathlib.Core.Path.{◌≡◌}
-use Prim.Native.Nat.{◌-◌}
 use Rattle.evaluation.proofs.evals.write_roots.Goals as goal
 
 pub loop-c-init : goal.loop-c-init

@@ -1,7 +1,7 @@
 use Rattle.evaluation.specs.Evaluation.{ext_root}
 use Rattle.laws.proofs.Folds.{lowest_start, lowest_on, lowest_at, lowest_stays}
 use native.Mathlib.Omega.{arith}
-use Prim.Native.Nat.{◌+◌, ◌-◌}
+use Prim.Native.Nat.{◌+◌}
 use mathlib.Core.Path.{◌≡◌, sym}
 use Rattle.evaluation.proofs.refuse.lowest_ext_root.Invariants.{wrong}
 use Rattle.evaluation.proofs.refuse.lowest_ext_root.Goals as goal

@@ -1,5 +1,4 @@
 use mathlib.Core.Path.{◌≡◌}
-use Prim.Native.Nat.{◌-◌}
 use native.Mathlib.Omega.{arith}
 use Rattle.laws.proofs.Folds.{all_start, all_count}
 use Rattle.reads.proofs.ReadsLaws.{bit_small}

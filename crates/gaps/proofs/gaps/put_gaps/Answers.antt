@@ -1,5 +1,5 @@
 use mathlib.Core.Path.{◌≡◌, ap, ◌∙◌}
-use Prim.Native.Nat.{ℕ, ◌+◌, ◌-◌}
+use Prim.Native.Nat.{ℕ, ◌+◌}
 use native.Mathlib.Omega.{arith}
 use Rattle.reads.proofs.ReadsLaws.{put_start, put_more, put_long, put_room}
 use Rattle.ir.specs.Words.{bit}

@@ -1,8 +1,7 @@
 use borrow.Author.Rules.{rules}
-use Rattle.ir.specs.Program.{node_ok}
 use Rattle.laws.proofs.Folds.{lowest_start, lowest_on, lowest_at, lowest_stays}
 use native.Mathlib.Omega.{arith}
-use Prim.Native.Nat.{◌+◌, ◌-◌}
+use Prim.Native.Nat.{◌+◌}
 use mathlib.Core.Path.{◌≡◌, refl, sym}
 use Rattle.ir.proofs.program.lowest_bad_node.Invariants.{bad}
 use Rattle.ir.proofs.program.lowest_bad_node.Goals as goal

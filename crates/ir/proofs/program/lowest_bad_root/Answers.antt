@@ -2,7 +2,7 @@ use borrow.Author.Rules.{rules}
 use Rattle.laws.proofs.Folds.{lowest_start, lowest_on, lowest_at, lowest_stays}
 use borrow.Author.Tests.{le-leb, lt-leb}
 use native.Mathlib.Omega.{arith}
-use Prim.Native.Nat.{◌+◌, ◌-◌}
+use Prim.Native.Nat.{◌+◌}
 use mathlib.Core.Path.{◌≡◌, sym}
 use Rattle.ir.proofs.program.lowest_bad_root.Invariants.{bad}
 use Rattle.ir.proofs.program.lowest_bad_root.Goals as goal

@@ -1,6 +1,6 @@
 use Rattle.field.proofs.Laws.{least_exact}
 use Rattle.field.specs.Base.{p}
-use Prim.Native.Nat.{ℕ, ◌%◌, ◌-◌}
+use Prim.Native.Nat.{ℕ, ◌%◌}
 use mathlib.Core.Path.{◌∙◌, ap, refl}
 use Rattle.stored_parts.proofs.WordLaws.{constants_next}
 use lib.ListN.{drop}

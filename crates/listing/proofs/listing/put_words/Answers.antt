@@ -1,6 +1,5 @@
 use mathlib.Core.Path.{◌∙◌, refl}
 use Rattle.stored_parts.proofs.WordLaws.{words_next}
-use Prim.Native.Nat.{◌-◌}
 use lib.ListN.{drop}
 use native.Mathlib.Omega.{arith}
 use Rattle.stored_parts.specs.Form.{words}

@@ -4,7 +4,6 @@ use Rattle.liveness.proofs.MarkLaws.{emits_none, emits_more}
 use borrow.Author.Rules.{rules}
 use native.Mathlib.Omega.{arith}
 use lib.ListN.{length}
-use Prim.Native.Nat.{◌-◌}
 use Rattle.liveness.proofs.liveness.mark_emitted.Goals as goal
 
 pub loop-i-init : goal.loop-i-init

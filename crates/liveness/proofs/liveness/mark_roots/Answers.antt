@@ -1,7 +1,6 @@
 use Rattle.liveness.proofs.MarkLaws.{rooted_more}
 use mathlib.Core.Path.{◌≡◌}
 use native.Mathlib.Omega.{arith}
-use Prim.Native.Nat.{◌-◌}
 use Rattle.liveness.proofs.liveness.mark_roots.Goals as goal
 
 pub loop-r-init : goal.loop-r-init

@@ -4,7 +4,7 @@ use Rattle.field.specs.Base.{p}
 use native.Mathlib.Omega.{arith}
 use lib.ListN.{get_or}
 use mathlib.Core.Path.{◌≡◌}
-use Prim.Native.Nat.{◌-◌, ◌%◌}
+use Prim.Native.Nat.{◌%◌}
 use Rattle.lower_parts.proofs.parts.copy_constants.Goals as goal
 
 pub loop-k-init : goal.loop-k-init

@@ -3,7 +3,6 @@ use Rattle.lower_parts.specs.Lower.{root_word}
 use native.Mathlib.Omega.{arith}
 use lib.ListN.{get_or}
 use mathlib.Core.Path.{◌≡◌}
-use Prim.Native.Nat.{◌-◌}
 use Rattle.lower_parts.proofs.parts.write_roots.Goals as goal
 
 pub loop-r-init : goal.loop-r-init

@@ -1,5 +1,4 @@
 use mathlib.Core.Path.{◌≡◌}
-use Prim.Native.Nat.{◌-◌}
 use native.Mathlib.Omega.{arith}
 use Rattle.reads.proofs.ReadsLaws.{marked_start, marked_more}
 use Rattle.reads.proofs.reads.mark_reads.Goals as goal

@@ -2,7 +2,6 @@ use mathlib.Core.Path.{refl, ◌∙◌, ◌≡◌}
 use Rattle.scan.proofs.ReadyLaws.{begins, ready, scanned_more, out_long}
 use native.Mathlib.Omega.{arith}
 use lib.ListN.{length}
-use Prim.Native.Nat.{◌-◌}
 use Rattle.scan.proofs.scan.scan_nodes.Goals as goal
 
 pub loop-i-init : goal.loop-i-init

@@ -1,4 +1,4 @@
-use Prim.Native.Nat.{ℕ, ◌%◌, ◌-◌}
+use Prim.Native.Nat.{ℕ, ◌%◌}
 use Rattle.field.specs.Base.{p}
 use mathlib.Core.Path.{◌∙◌, ap, ◌≡◌, refl}
 use lib.ListN.{drop}

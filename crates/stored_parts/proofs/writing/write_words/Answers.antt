@@ -1,5 +1,4 @@
 use Rattle.stored_parts.proofs.WordLaws.{spread_set, sets_long}
-use Prim.Native.Nat.{◌-◌}
 use mathlib.Core.Path.{◌≡◌, refl}
 use lib.ListN.{take}
 use native.Mathlib.Omega.{arith}

@@ -5,7 +5,6 @@ use Rattle.laws.proofs.Tests.{clash}
 use borrow.Author.Count.{below_none, below_more}
 use borrow.Author.Tests.{not-false}
 use native.Mathlib.Omega.{arith}
-use Prim.Native.Nat.{◌-◌}
 use mathlib.Core.Path.{◌≡◌, refl}
 use Rattle.trial.proofs.step.pass.Goals as goal
 

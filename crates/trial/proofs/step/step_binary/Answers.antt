@@ -5,7 +5,6 @@ use Rattle.values.proofs.OperationLaws.{binary_base, binary_ext}
 use Rattle.laws.proofs.Tests.{clash}
 use native.Mathlib.Omega.{arith}
 use mathlib.Core.List.{[], ◌∷◌}
-use mathlib.Core.Logic.{⊎_elim}
 use mathlib.Core.Path.{◌≡◌, refl, sym, ◌∙◌}
 use Prim.Native.Nat.{◌*◌}
 use lib.Dec.{lit<}

@@ -1,7 +1,6 @@
 use Rattle.trial_parts.proofs.TrialLaws.{copy_more}
 use lib.ListN.{length-set}
 use native.Mathlib.Omega.{arith}
-use Prim.Native.Nat.{◌-◌}
 use mathlib.Core.Path.{◌≡◌, refl}
 use Rattle.trial_parts.proofs.parts.copy_words.Goals as goal
 

@@ -2,7 +2,6 @@ use Rattle.values.proofs.RunLaws.{passed_low, passed_more, passed_all}
 use Rattle.values.specs.Frame.{lent}
 use Rattle.laws.proofs.Blocks.{blocks_none}
 use native.Mathlib.Omega.{arith}
-use Prim.Native.Nat.{◌-◌}
 use mathlib.Core.Path.{◌≡◌}
 use Rattle.values.proofs.run.run.Goals as goal
 
