@@ -7,6 +7,7 @@ use lower::lower::lower;
 use lower_parts::parts::Lowering;
 use sample::answer::refusal_number;
 use sample::report::{say, say_number};
+use std::io;
 
 const NONE: IrBuilder = IrBuilder {
     nodes: 0,
@@ -23,40 +24,46 @@ fn after(b: IrBuilder, a: Answer) -> IrBuilder {
 }
 
 // The node's id, or the refusal's number in words.
-fn say_answer(a: Answer) {
+fn say_answer(rt: &impl Print, a: Answer) -> io::Result<()> {
     match a {
-        Answer::Made { expr, builder } => say_number(b" gives node ", expr.id as u64),
-        Answer::Refused(why) => say_number(b" is refused by ", refusal_number(why)),
+        Answer::Made { expr, builder } => say_number(rt, b" gives node ", expr.id as u64)?,
+        Answer::Refused(why) => say_number(rt, b" is refused by ", refusal_number(why))?,
     }
-    say(b"\n");
+    say(rt, b"\n")
 }
 
 // Columns of 16 bits.
-fn column(col: usize) {
+fn column(rt: &impl Print, col: usize) -> io::Result<()> {
     let mut nodes = [0u32; 16];
     let mut places = [0u32; 8];
     let mut bases = [0u64; 2];
     let b = after(NONE, IrBuilder::new(&mut nodes, &mut places, &mut bases));
-    say_number(b"column ", col as u64);
-    say_answer(b.main(&mut nodes, &mut places, 0, col));
+    say_number(rt, b"column ", col as u64)?;
+    say_answer(rt, b.main(&mut nodes, &mut places, 0, col))
 }
 
-fn say_word(word: u32) {
-    say_number(b" ", word as u64);
+fn say_word(rt: &impl Print, word: u32) -> io::Result<()> {
+    say_number(rt, b" ", word as u64)
 }
 
-fn say_words(name: &[u8], words: &[u32]) {
-    say(name);
+fn say_words(rt: &impl Print, name: &[u8], words: &[u32]) -> io::Result<()> {
+    say(rt, name)?;
     let mut i: usize = 0;
     while i < words.len() {
-        say_word(words[i]);
+        say_word(rt, words[i])?;
         i += 1;
     }
-    say(b"\n");
+    say(rt, b"\n")
 }
 
 // The blob of a program of two nodes and three roots, over tables that are long enough.
-fn say_lowered(b: IrBuilder, nodes: &[u32], bases: &[u64], roots: &[u32]) {
+fn say_lowered(
+    rt: &impl Print,
+    b: IrBuilder,
+    nodes: &[u32],
+    bases: &[u64],
+    roots: &[u32],
+) -> io::Result<()> {
     let mut used = [0u32; 4];
     let mut last_use = [0u32; 4];
     let mut is_root = [0u32; 4];
@@ -84,14 +91,14 @@ fn say_lowered(b: IrBuilder, nodes: &[u32], bases: &[u64], roots: &[u32]) {
         &mut out_roots,
     ) {
         Lowering::Lowered(k) => {
-            say_number(b"lowered: nodes ", k.nodes as u64);
-            say_number(b", base slots ", k.base_slots as u64);
-            say_words(b", roots in slots", &out_roots);
-            say_words(b"words of its nodes:", &out_nodes);
+            say_number(rt, b"lowered: nodes ", k.nodes as u64)?;
+            say_number(rt, b", base slots ", k.base_slots as u64)?;
+            say_words(rt, b", roots in slots", &out_roots)?;
+            say_words(rt, b"words of its nodes:", &out_nodes)
         }
         Lowering::Refused(why) => {
-            say_number(b"lowering is refused by ", refusal_number(why));
-            say(b"\n");
+            say_number(rt, b"lowering is refused by ", refusal_number(why))?;
+            say(rt, b"\n")
         }
     }
 }
@@ -105,32 +112,36 @@ fn fresh_cell(nodes: &mut [u32], places: &mut [u32], bases: &mut [u64]) -> Answe
     b.main(&mut nodes[..], &mut places[..], 0, 5)
 }
 
-fn emit_over(cell: Answer, nodes: &[u32], bases: &[u64], roots: &mut [u32]) {
+fn emit_over(
+    rt: &impl Print,
+    cell: Answer,
+    nodes: &[u32],
+    bases: &[u64],
+    roots: &mut [u32],
+) -> io::Result<()> {
     let Answer::Made { expr, builder } = cell else {
-        say(b"the cell is refused\n");
-        return;
+        return say(rt, b"the cell is refused\n");
     };
     let Emitted::Rooted(rooted) = builder.emit(nodes, &mut roots[..], 2, expr) else {
-        say(b"the root is refused\n");
-        return;
+        return say(rt, b"the root is refused\n");
     };
-    say_number(b"emit(2) alone: ", rooted.roots as u64);
-    say_words(b" roots:", roots);
-    say_lowered(rooted, nodes, bases, roots);
+    say_number(rt, b"emit(2) alone: ", rooted.roots as u64)?;
+    say_words(rt, b" roots:", roots)?;
+    say_lowered(rt, rooted, nodes, bases, roots)
 }
 
 // emit(2) alone: constraints 0 and 1 have node 0, which then has a slot.
-fn emit_past_gaps() {
+fn emit_past_gaps(rt: &impl Print) -> io::Result<()> {
     let mut nodes = [0u32; 16];
     let mut places = [0u32; 8];
     let mut bases = [0u64; 2];
     let mut roots = [7u32; 3];
     let cell = fresh_cell(&mut nodes, &mut places, &mut bases);
-    emit_over(cell, &nodes, &bases, &mut roots);
+    emit_over(rt, cell, &nodes, &bases, &mut roots)
 }
 
-fn main() {
-    column(65535);
-    column(65536);
-    emit_past_gaps();
+fn main(rt: HostRuntime) -> io::Result<()> {
+    column(&rt, 65535)?;
+    column(&rt, 65536)?;
+    emit_past_gaps(&rt)
 }

@@ -5,6 +5,7 @@ use super::line::Case;
 use ir::frame::Shape;
 use ir::program::Counts;
 use sample::report::{report, say_number};
+use std::io;
 
 // Document 01's numbers, written out: the code's own constants are what is tried.
 const MOST: usize = 536870911;
@@ -34,12 +35,12 @@ fn bare(counts: Counts) -> Case {
     }
 }
 
-fn limit(name: &[u8], count: usize, c: Counts, answer: u64) {
+fn limit(rt: &impl Print, name: &[u8], count: usize, c: Counts, answer: u64) -> io::Result<()> {
     let line = [answer; 5];
     let short = [0u32; 1];
-    say_number(name, count as u64);
-    say_number(b" and answer ", answer);
-    report(&line, hold_calls(&line, bare(c), &short, &short));
+    say_number(rt, name, count as u64)?;
+    say_number(rt, b" and answer ", answer)?;
+    report(rt, &line, hold_calls(&line, bare(c), &short, &short))
 }
 
 fn counts(nodes: usize, bases: usize, exts: usize, roots: usize, num_base: usize) -> Counts {
@@ -52,24 +53,38 @@ fn counts(nodes: usize, bases: usize, exts: usize, roots: usize, num_base: usize
     }
 }
 
-pub fn hold_limits() {
-    limit(b"nodes ", MOST, counts(MOST, 0, 0, 0, 0), 1);
-    limit(b"nodes ", MOST + 1, counts(MOST + 1, 0, 0, 0, 0), 8);
-    limit(b"base constants ", MOST, counts(0, MOST, 0, 0, 0), 1);
+pub fn hold_limits(rt: &impl Print) -> io::Result<()> {
+    limit(rt, b"nodes ", MOST, counts(MOST, 0, 0, 0, 0), 1)?;
+    limit(rt, b"nodes ", MOST + 1, counts(MOST + 1, 0, 0, 0, 0), 8)?;
+    limit(rt, b"base constants ", MOST, counts(0, MOST, 0, 0, 0), 1)?;
     limit(
+        rt,
         b"base constants ",
         MOST + 1,
         counts(0, MOST + 1, 0, 0, 0),
         8,
-    );
-    limit(b"extension constants ", MOST, counts(0, 0, MOST, 0, 0), 1);
+    )?;
     limit(
+        rt,
+        b"extension constants ",
+        MOST,
+        counts(0, 0, MOST, 0, 0),
+        1,
+    )?;
+    limit(
+        rt,
         b"extension constants ",
         MOST + 1,
         counts(0, 0, MOST + 1, 0, 0),
         8,
-    );
-    limit(b"roots ", MOST32, counts(0, 0, 0, MOST32, 0), 1);
-    limit(b"roots ", MOST32 + 1, counts(0, 0, 0, MOST32 + 1, 0), 9);
-    limit(b"num_base ", MOST32 + 1, counts(0, 0, 0, 0, MOST32 + 1), 9);
+    )?;
+    limit(rt, b"roots ", MOST32, counts(0, 0, 0, MOST32, 0), 1)?;
+    limit(rt, b"roots ", MOST32 + 1, counts(0, 0, 0, MOST32 + 1, 0), 9)?;
+    limit(
+        rt,
+        b"num_base ",
+        MOST32 + 1,
+        counts(0, 0, 0, 0, MOST32 + 1),
+        9,
+    )
 }

@@ -15,6 +15,7 @@ use sample::input::sample_numbers;
 use sample::line::{first, line_end, narrow, part, times};
 use sample::report::{report, say_number};
 use sample::seen::Seen;
+use std::io;
 
 // The tables are lent exactly as long as the counts say.
 fn replay(line: &[u64]) -> Seen {
@@ -39,26 +40,33 @@ fn replay(line: &[u64]) -> Seen {
     )
 }
 
-fn replay_part(numbers: &[u64], case: u64, from: usize, to: usize) {
+fn replay_part(
+    rt: &impl Print,
+    numbers: &[u64],
+    case: u64,
+    from: usize,
+    to: usize,
+) -> io::Result<()> {
     let line = part(numbers, from, to);
-    say_number(b"case ", case);
-    report(line, replay(line));
+    say_number(rt, b"case ", case)?;
+    report(rt, line, replay(line))
 }
 
-fn replay_all(numbers: &[u64]) {
+fn replay_all(rt: &impl Print, numbers: &[u64]) -> io::Result<()> {
     let mut case: u64 = 0;
     let mut at: usize = 0;
     while at < numbers.len() {
         let end = line_end(numbers, at);
-        replay_part(numbers, case, at, end);
+        replay_part(rt, numbers, case, at, end)?;
         case += 1;
         at = end;
     }
+    Ok(())
 }
 
-fn main() {
+fn main(rt: HostRuntime) -> io::Result<()> {
     let mut numbers = [0u64; 8192];
-    let count = sample_numbers(&mut numbers);
-    replay_all(part(&numbers, 0, count));
-    hold_limits();
+    let count = sample_numbers(&rt, &mut numbers)?;
+    replay_all(&rt, part(&numbers, 0, count))?;
+    hold_limits(&rt)
 }

@@ -1,49 +1,51 @@
 // What a case has come to, in words.
 use super::line::number_at;
 use super::seen::Seen;
-use libc::STDOUT_FILENO;
+use std::io;
 
-pub fn say(words: &[u8]) {
-    io::write_all(STDOUT_FILENO, words);
+pub fn say(rt: &impl Print, words: &[u8]) -> io::Result<()> {
+    rt.write_all(words)
 }
 
-pub fn say_number(name: &[u8], x: u64) {
-    io::write_all(STDOUT_FILENO, name);
-    io::print_decimal(STDOUT_FILENO, x);
+pub fn say_number(rt: &impl Print, name: &[u8], x: u64) -> io::Result<()> {
+    rt.write_all(name)?;
+    rt.print(x)
 }
 
 // Numbers of a line are counted from 0.
-pub fn report(line: &[u64], seen: Seen) {
+pub fn report(rt: &impl Print, line: &[u64], seen: Seen) -> io::Result<()> {
     match seen {
         Seen::Agrees { at } => {
             if at == line.len() {
-                say(b" agrees\n");
+                say(rt, b" agrees\n")
             } else {
-                say(b" has numbers to spare\n");
+                say(rt, b" has numbers to spare\n")
             }
         }
         Seen::Differs { at, found } => {
-            say_number(b": number ", at as u64);
-            say_number(b" has to be ", number_at(line, at));
-            say_number(b" and is ", found);
-            say(b"\n");
+            say_number(rt, b": number ", at as u64)?;
+            say_number(rt, b" has to be ", number_at(line, at))?;
+            say_number(rt, b" and is ", found)?;
+            say(rt, b"\n")
         }
         Seen::Touched { at } => {
             say_number(
+                rt,
                 b": a word is written that has to stay, before number ",
                 at as u64,
-            );
-            say(b"\n");
+            )?;
+            say(rt, b"\n")
         }
         Seen::Uncleared { at } => {
             say_number(
+                rt,
                 b": a word is not 0 that has to be, before number ",
                 at as u64,
-            );
-            say(b"\n");
+            )?;
+            say(rt, b"\n")
         }
-        Seen::Cut => say(b" is shorter than its counts say\n"),
-        Seen::NoRoom => say(b" needs more room than this program has\n"),
-        Seen::UnknownKind => say(b" is of a kind that this program does not replay\n"),
+        Seen::Cut => say(rt, b" is shorter than its counts say\n"),
+        Seen::NoRoom => say(rt, b" needs more room than this program has\n"),
+        Seen::UnknownKind => say(rt, b" is of a kind that this program does not replay\n"),
     }
 }
