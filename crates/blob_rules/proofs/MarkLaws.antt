@@ -163,11 +163,11 @@ module _ (c : BlobCounts) (s : Shape) (nodes old : List ℕ) where
     unfolding filled_after
     checking_more {after = after} l e t z =
         let slot = node_slot_in e t in
-        let long-new : slot_count c ≤ length new = rw k.long l in
+        let long_new : slot_count c ≤ length new = rw k.long l in
         let place = mark_in c (instr_at nodes i).res slot in
         record {
           none_yet = lowest_on (bad_node c s nodes) i k.none_yet (sym (node_tested e) ∙ t);
-          alike = rw (z, add-one i) (alike_mark c new (filled_after nodes i) (instr_at nodes i).res slot long-new k.alike);
+          alike = rw (z, add-one i) (alike_mark c new (filled_after nodes i) (instr_at nodes i).res slot long_new k.alike);
           rest = rw z (drop-set-lt (slot_count c) new (mark_at c (instr_at nodes i).res) 1 place ∙ k.rest);
           long = rw z (length-set new (mark_at c (instr_at nodes i).res) 1 ∙ k.long);
         }

@@ -58,15 +58,15 @@ module _ (f : Table → Built) (b : IrBuilder) (nodes places : Lent) {z : Bool} 
     gives_done {r} {ns} {ps} {nout} {pout} {done} g ln lp d qn qp =
         let q = sym e ∙ h in
         let nodes_fit = first_fits nodes places e h in
-        let places-fit = second_fits nodes places e h in
-        let g' : Gives (f (held_table nodes places b.nodes)) b r ns ps = rw (lent_words 4 nodes nodes_fit en, lent_words 4 places places-fit ep) at g in
+        let places_fit = second_fits nodes places e h in
+        let g' : Gives (f (held_table nodes places b.nodes)) b r ns ps = rw (lent_words 4 nodes nodes_fit en, lent_words 4 places places_fit ep) at g in
         let o = f (held_table nodes places b.nodes) in
         let d' = done_by d g'.said in
         record {
           said = rw q g'.said;
           builder = rw q g'.builder;
           nodes_end = rw q (packed_after 4 nodes nodes_fit en ns ln o.said d' qn ∙ ap (λ (l : List ℕ). packed_on 4 o.said l nodes) g'.nodes);
-          places_end = rw q (packed_after 4 places places-fit ep ps lp o.said d' qp ∙ ap (λ (l : List ℕ). packed_on 4 o.said l places) g'.places);
+          places_end = rw q (packed_after 4 places places_fit ep ps lp o.said d' qp ∙ ap (λ (l : List ℕ). packed_on 4 o.said l places) g'.places);
         }
 
 -- ---- nodes, places and constants
@@ -97,17 +97,17 @@ module _ (counts : IrBuilder → ℕ → ℕ → IrBuilder) (f : List ℕ → Li
   interns_done {r} {ns} {ps} {cs} {nout} {pout} {cout} {done} g ln lp lc d qn qp qc =
       let q : short_three nodes places consts ≡ false = rw (sym e ∙ h, sym j ∙ k) in
       let nodes_fit = first_fits nodes places e h in
-      let places-fit = second_fits nodes places e h in
-      let consts-fit = wide_fits consts j k in
+      let places_fit = second_fits nodes places e h in
+      let consts_fit = wide_fits consts j k in
       let o = f (held 4 nodes) (held 4 places) (held 8 consts) in
-      let g' : Interns counts o b r ns ps cs = rw (lent_words 4 nodes nodes_fit en, lent_words 4 places places-fit ep, lent_words 8 consts consts-fit ec) at g in
+      let g' : Interns counts o b r ns ps cs = rw (lent_words 4 nodes nodes_fit en, lent_words 4 places places_fit ep, lent_words 8 consts consts_fit ec) at g in
       let d' = done_by d g'.said in
       record {
         said = rw q g'.said;
         builder = rw q g'.builder;
         nodes_end = rw q (packed_after 4 nodes nodes_fit en ns ln o.said d' qn ∙ ap (λ (l : List ℕ). packed_on 4 o.said l nodes) g'.nodes);
-        places_end = rw q (packed_after 4 places places-fit ep ps lp o.said d' qp ∙ ap (λ (l : List ℕ). packed_on 4 o.said l places) g'.places);
-        consts_end = rw q (packed_after 8 consts consts-fit ec cs lc o.said d' qc ∙ ap (λ (l : List ℕ). packed_on 8 o.said l consts) g'.consts);
+        places_end = rw q (packed_after 4 places places_fit ep ps lp o.said d' qp ∙ ap (λ (l : List ℕ). packed_on 4 o.said l places) g'.places);
+        consts_end = rw q (packed_after 8 consts consts_fit ec cs lc o.said d' qc ∙ ap (λ (l : List ℕ). packed_on 8 o.said l consts) g'.consts);
       }
 
 -- ---- roots
@@ -159,11 +159,11 @@ module _ (k : ℕ) (roots out : Lent) {z : Bool} (e : z ≡ short_report roots o
   gaps_done {r} {os} {bytes} {done} g lo d qo =
       let q = sym e ∙ h in
       let roots_fit = report_first_fits roots out e h in
-      let out-fit = report_second_fits roots out e h in
+      let out_fit = report_second_fits roots out e h in
       let s = report_said k roots out in
-      let g' : GapsAnswer (held 4 roots) k (held 8 out) os r = rw (lent_words 4 roots roots_fit et, lent_words 8 out out-fit eo) at g in
+      let g' : GapsAnswer (held 4 roots) k (held 8 out) os r = rw (lent_words 4 roots roots_fit et, lent_words 8 out out_fit eo) at g in
       record {
         said = rw q g'.said;
         roots_end = rw (q, et);
-        out_end = rw q (packed_after 8 out out-fit eo os lo s (done_by d g'.said) qo ∙ ap (λ (l : List ℕ). packed_on 8 s l out) g'.written);
+        out_end = rw q (packed_after 8 out out_fit eo os lo s (done_by d g'.said) qo ∙ ap (λ (l : List ℕ). packed_on 8 s l out) g'.written);
       }

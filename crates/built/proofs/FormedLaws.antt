@@ -1,4 +1,4 @@
--- Every call leaves a well_formed program.
+-- Every call leaves a well-formed program.
 -- Assumes nothing.
 use mathlib.Core.Bool.{Bool, true, false, cond, ◌&&◌, ◌||◌}
 use mathlib.Core.List.{List, [], ◌∷◌, ◌++◌}

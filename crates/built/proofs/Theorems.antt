@@ -69,7 +69,7 @@ module _ (start : Start) (m : Memory) (d : Draft) (h : Holds start m d) where
       let k = ap (λ (b : IrBuilder). b.roots) counted in
       all_same _ _ m.builder.roots (λ r l. ap (λ x. eqb x 0) (root_at r l)) ∙ ap (all_below (λ r. eqb (get_or d.roots r 0) 0)) k
 
-  -- ---- well_formed
+  -- ---- well-formed
 
   module _ (s : Sane d) (base : ℕ) where
     abbrev c : Counts

@@ -93,12 +93,12 @@ pub record Shared (A : Type 0) : Type 0 where
   pub consts : List A
 
 -- the constant v among those of its table, by value; where it is new and its node fits, it is put last
-abbrev pub sharing : {A : Type 0} → (nodesFit constsFit tag dim : ℕ) → (A → Bool) → A → List Node → List A → Shared A
-sharing nodesFit constsFit tag dim same v xs cs =
+abbrev pub sharing : {A : Type 0} → (nodes_fit consts_fit tag dim : ℕ) → (A → Bool) → A → List Node → List A → Shared A
+sharing nodes_fit consts_fit tag dim same v xs cs =
     let i = index_of same cs in
     let new = leb (length cs) i in
-    let o = push_list nodesFit xs (node tag i 0 dim) in
-    let rows = row (new && leb constsFit (length cs)) 5 ∷ [] in
+    let o = push_list nodes_fit xs (node tag i 0 dim) in
+    let rows = row (new && leb consts_fit (length cs)) 5 ∷ [] in
     record {
       said = first (rows ++ (row (missing o.id) 4 ∷ [])) (gives (found_at o.id ∷ dim ∷ []));
       nodes = cond (any_holds rows) xs o.list;

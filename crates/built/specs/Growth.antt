@@ -31,7 +31,7 @@ pub record Stage : Type 0 where
   pub growth : Growth
   pub calls : List Call
 
--- the memory stands for the program, which is well_formed and serves
+-- the memory stands for the program, which is well-formed and serves
 pub record Ends (m : Memory) (d : Draft) : Type 0 where
   pub stands : Stands m d
   pub made : WellMade m

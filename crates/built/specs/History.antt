@@ -69,7 +69,7 @@ pub record SameAs (other : Start) (start : Start) (m : Memory) (cs : List Call) 
 abbrev pub program_of : Memory → ℕ → Program
 program_of m base = record { counts = finished m.builder base; nodes = m.nodes; bases = m.bases; exts = m.exts; roots = m.roots }
 
--- it is well_formed, nodes and constants are within their limits, and no table is short, whatever num_base is
+-- it is well-formed, nodes and constants are within their limits, and no table is short, whatever num_base is
 pub record WellMade (m : Memory) : Type 0 where
   pub few : (base : ℕ) → too_many_nodes (program_of m base).counts ≡ false
   pub long : (base : ℕ) → short_program (program_of m base) ≡ false

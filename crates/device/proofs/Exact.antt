@@ -328,9 +328,9 @@ module _ {B X : Type 0} (K : Tower B X) (tags : List Form) (kinds : List Kind) (
       unfolding stops_at illegal
       passes_through h =
           let stopped = lowest stops c.nodes in
-          let after-nodes = lowest (stops_root (num_base_of c)) c.roots in
-          let a = sym (nodes_exact c.nodes) ∙ or_none_left stopped after-nodes h in
-          let r = lowest_none (stops_root (num_base_of c)) c.roots (or_none_right stopped after-nodes h) in
+          let after_nodes = lowest (stops_root (num_base_of c)) c.roots in
+          let a = sym (nodes_exact c.nodes) ∙ or_none_left stopped after_nodes h in
+          let r = lowest_none (stops_root (num_base_of c)) c.roots (or_none_right stopped after_nodes h) in
           let t = through c.nodes a in
           let b = none_lowest bad_root c.roots (λ k l. or_right (wrong_class (num_base_of c) k) (bad_root k) (sym (roots_exact (num_base_of c) t k) ∙ r k l)) in
           let q : illegal tags kinds c s nodes roots ≡ none = rw (a, b) in

@@ -1,4 +1,4 @@
--- A program over lent words, and when it is well_formed.
+-- A program over lent words, and when it is well-formed.
 -- Assumes nothing.
 use Rattle.std.specs.Prelude.{Bool, cond, not, ◌&&◌, ◌||◌, List, [], ◌∷◌, ℕ, ◌*◌, ◌%◌, eqb, leb, ltb, length, get_or}
 use Rattle.std.proofs.Math.Option.{Option}

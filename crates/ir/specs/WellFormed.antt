@@ -1,4 +1,4 @@
--- A second reading of well_formed, by facts, node by node: what is known of a program that the check lets through.
+-- A second reading of well-formed, by facts, node by node: what is known of a program that the check lets through.
 -- `WellFormedLaws` of proofs/ shows that it is the check's own test, both ways round. No public promise cites it.
 -- Assumes nothing.
 use Rattle.std.specs.Prelude.{cond, List, ◌≡◌, ℕ, ◌%◌, ◌<◌, ◌≤◌, ltb, get_or}

@@ -212,7 +212,7 @@ pub fn lowest_bad_root(c: Counts, roots: &[u32]) -> Place
     Place::Nowhere
 }
 
-// The lowest node that is not well_formed, else the lowest root.
+// The lowest node that is not well-formed, else the lowest root.
 pub fn ill_formed(c: Counts, nodes: &[u32], roots: &[u32]) -> Place
     requires { (4 * c.nodes ≤ length nodes.now) × (c.roots ≤ length roots.now) }
     ensures { place_of result ≡ ill_formed c nodes.now roots.now }

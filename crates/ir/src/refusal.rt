@@ -14,7 +14,7 @@ pub enum Refusal {
     ConstantsFull,
     // 6: a constraint number at or past the root room, or the root count.
     NoConstraint,
-    // 7: the program is not well_formed.
+    // 7: the program is not well-formed.
     IllFormed { place: usize },
     // 8: too many nodes or constants.
     TooManyNodes,

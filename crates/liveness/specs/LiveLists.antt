@@ -50,7 +50,7 @@ pub record RootsBelow (roots : List ℕ) (count n : ℕ) : Type 0 where
 
 -- the nodes that the first k roots name
 abbrev pub Rooted : List ℕ → ℕ → ℕ → List ℕ → Type 0
-Rooted roots k n is-root = (length is-root ≡ n) × Tab is-root n (λ j. bit (any_below (λ r. eqb (get_or roots r 0) j) k))
+Rooted roots k n is_root = (length is_root ≡ n) × Tab is_root n (λ j. bit (any_below (λ r. eqb (get_or roots r 0) j) k))
 
 -- whether a node gets a slot, by its tag and its words of use and root
 abbrev pub emits_word : (tag used root : ℕ) → Bool

@@ -82,7 +82,7 @@ out_count nodes v (suc i) =
     (λ t. omega (arith, ih, one_more nodes v i t, ap bit t))
     λ t. omega (arith, ih, ap (λ s. length s.out) (scan_skips nodes v i t), ap bit t)
 
--- ---- a well_formed program
+-- ---- a well-formed program
 
 module _ (c : Counts) (nodes roots : List ℕ) (f : WellFormed c nodes roots) where
   -- a node's operands are before it

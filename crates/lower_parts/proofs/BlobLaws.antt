@@ -27,8 +27,8 @@ use Rattle.lower_parts.proofs.AgreeLaws.{agree, scannable, scan_same, out_count,
 over_rows : (k : ℕ) (f : ℕ → ℕ) (old : List ℕ) → tabulate k f ++ drop k old ≡ over (tabulate k f) old
 over_rows k f old = rw (length_tabulate k f) refl
 
-module _ (c : Counts) (nodes bases exts roots emitted last pinned slot free : List ℕ) (count : ℕ) (out-nodes out-bases out-exts out-roots : List ℕ)
-    (g : WriteOk c nodes bases exts roots emitted last pinned slot free count out-nodes out-bases out-exts out-roots) where
+module _ (c : Counts) (nodes bases exts roots emitted last pinned slot free : List ℕ) (count : ℕ) (out_nodes out_bases out_exts out_roots : List ℕ)
+    (g : WriteOk c nodes bases exts roots emitted last pinned slot free count out_nodes out_bases out_exts out_roots) where
   abbrev v : Liveness
   v = listed emitted last pinned
 
@@ -46,7 +46,7 @@ module _ (c : Counts) (nodes bases exts roots emitted last pinned slot free : Li
   counted : length s.out ≡ count
   counted = out_count nodes (live c nodes roots) c.nodes ∙ sym g.alive.counted
 
-  pub begins_ok : Begins nodes emitted last pinned slot free out-nodes
+  pub begins_ok : Begins nodes emitted last pinned slot free out_nodes
   begins_ok =
       let e = g.lists_long.0 in
       record {
@@ -59,7 +59,7 @@ module _ (c : Counts) (nodes bases exts roots emitted last pinned slot free : Li
         room = rw (e, same, counted) g.room.0;
       }
 
-  module _ (slot' free' tops next out : List ℕ) (count' : ℕ) (x : Scanned (length slot) nodes emitted last pinned out-nodes slot' free' tops next out count')
+  module _ (slot' free' tops next out : List ℕ) (count' : ℕ) (x : Scanned (length slot) nodes emitted last pinned out_nodes slot' free' tops next out count')
       (l : length slot' ≡ length slot) where
     n_long : length slot' ≡ c.nodes
     n_long = l ∙ g.lists_long.0
@@ -87,23 +87,23 @@ module _ (c : Counts) (nodes bases exts roots emitted last pinned slot free : Li
               };
         }
 
-    pub blob_written : (out-bases' out-exts' out-roots' : List ℕ)
-        → out-roots' ≡ tabulate c.roots (λ r. root_word nodes (λ k. get_or slot' k 0) (get_or roots r 0)) ++ drop c.roots out-roots
-        → out-bases' ≡ tabulate c.bases (λ k. get_or bases k 0 % p) ++ drop c.bases out-bases
-        → out-exts' ≡ tabulate (3 * c.exts) (λ k. get_or exts k 0 % p) ++ drop (3 * c.exts) out-exts
-        → BlobWritten c made (record { nodes = out-nodes; bases = out-bases; exts = out-exts; roots = out-roots })
-        (record { nodes = out; bases = out-bases'; exts = out-exts'; roots = out-roots' }) count' next
-    blob_written out-bases' out-exts' out-roots' er eb ex =
+    pub blob_written : (out_bases' out_exts' out_roots' : List ℕ)
+        → out_roots' ≡ tabulate c.roots (λ r. root_word nodes (λ k. get_or slot' k 0) (get_or roots r 0)) ++ drop c.roots out_roots
+        → out_bases' ≡ tabulate c.bases (λ k. get_or bases k 0 % p) ++ drop c.bases out_bases
+        → out_exts' ≡ tabulate (3 * c.exts) (λ k. get_or exts k 0 % p) ++ drop (3 * c.exts) out_exts
+        → BlobWritten c made (record { nodes = out_nodes; bases = out_bases; exts = out_exts; roots = out_roots })
+        (record { nodes = out; bases = out_bases'; exts = out_exts'; roots = out_roots' }) count' next
+    blob_written out_bases' out_exts' out_roots' er eb ex =
         let f = x.wrote.counted in
         let k : count' ≡ length s.out = rw at_end at f in
-        let w : out ≡ flat s.out ++ drop (4 * count') out-nodes = rw at_end at x.wrote.words in
+        let w : out ≡ flat s.out ++ drop (4 * count') out_nodes = rw at_end at x.wrote.words in
         let long : 4 * count' ≡ length (flat s.out) = omega (arith, flat_length s.out, k) in
-        let nodes-over : out ≡ over (flat s.out) out-nodes = w ∙ ap (λ m. flat s.out ++ drop m out-nodes) long in
-        let roots-over : out-roots' ≡ over made.roots out-roots =
-        er ∙ ap (λ t. t ++ drop c.roots out-roots) (tabulate_same c.roots _ _ (λ r h. ap (λ z. root_word nodes (λ k. z) (get_or roots r 0)) (slots (get_or roots r 0) (g.formed.root r h)))) ∙ over_rows c.roots _ out-roots
+        let nodes_over : out ≡ over (flat s.out) out_nodes = w ∙ ap (λ m. flat s.out ++ drop m out_nodes) long in
+        let roots_over : out_roots' ≡ over made.roots out_roots =
+        er ∙ ap (λ t. t ++ drop c.roots out_roots) (tabulate_same c.roots _ _ (λ r h. ap (λ z. root_word nodes (λ k. z) (get_or roots r 0)) (slots (get_or roots r 0) (g.formed.root r h)))) ∙ over_rows c.roots _ out_roots
         in
         record {
-          words = rw (nodes-over, roots-over, eb ∙ over_rows c.bases _ out-bases, ex ∙ over_rows (3 * c.exts) _ out-exts) refl;
+          words = rw (nodes_over, roots_over, eb ∙ over_rows c.bases _ out_bases, ex ∙ over_rows (3 * c.exts) _ out_exts) refl;
           counted = k;
           slots = (x.stands.nexts 0 (omega arith) ∙ ap (λ z. z.next 0) at_end, x.stands.nexts 1 (omega arith) ∙ ap (λ z. z.next 1) at_end);
         }

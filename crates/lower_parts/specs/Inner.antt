@@ -28,14 +28,14 @@ pub record RootsOk (count : ℕ) (nodes roots slot : List ℕ) : Type 0 where
 -- ---- the blob
 
 -- a program that was let through, its liveness on the lists, and room for `count` nodes
-pub record WriteOk (c : Counts) (nodes bases exts roots emitted last pinned slot free : List ℕ) (count : ℕ) (out-nodes out-bases out-exts out-roots : List ℕ) : Type 0 where
+pub record WriteOk (c : Counts) (nodes bases exts roots emitted last pinned slot free : List ℕ) (count : ℕ) (out_nodes out_bases out_exts out_roots : List ℕ) : Type 0 where
   pub formed : WellFormed c nodes roots
   pub few : (c.nodes ≤ most) × (c.bases ≤ most) × (c.exts ≤ most)
   pub long : (4 * c.nodes ≤ length nodes) × (c.bases ≤ length bases) × (3 * c.exts ≤ length exts) × (c.roots ≤ length roots)
   pub alive : Alive c nodes roots emitted last pinned count
   pub lists_long : (length slot ≡ c.nodes) × (length free ≡ 2 * c.nodes)
   pub clear : busy slot ≡ 0
-  pub room : (4 * count ≤ length out-nodes) × (c.bases ≤ length out-bases) × (3 * c.exts ≤ length out-exts) × (c.roots ≤ length out-roots)
+  pub room : (4 * count ≤ length out_nodes) × (c.bases ≤ length out_bases) × (3 * c.exts ≤ length out_exts) × (c.roots ≤ length out_roots)
 
 -- the blob is written
 pub record BlobWritten (c : Counts) (l : Lowered) (old new : Output) (count : ℕ) (next : List ℕ) : Type 0 where

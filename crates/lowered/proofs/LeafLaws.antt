@@ -120,12 +120,12 @@ module _ (c : Counts) (nodes roots : List ℕ) (s : Shape) (f : WellFormed c nod
         }
 
     -- and that the evaluator reads the same
-    module _ (l : Lent) (bases exts old-bases old-exts : List ℕ) where
+    module _ (l : Lent) (bases exts old_bases old_exts : List ℕ) where
       abbrev own : Leaves ℕ (List ℕ)
       own = leaves (prover_strides s) (with_constants bases exts l)
 
       abbrev walked : Leaves ℕ (List ℕ)
-      walked = leaves_of (contents s.steps 0 s (with_constants (low_table c.bases bases old-bases) (low_table (3 * c.exts) exts old-exts) l))
+      walked = leaves_of (contents s.steps 0 s (with_constants (low_table c.bases bases old_bases) (low_table (3 * c.exts) exts old_exts) l))
 
       row_is : (step : ℕ) → step < s.steps → row_at s.steps 0 step ≡ step
       row_is step b = ap (λ k. k % s.steps) (zero-add step) ∙ mod-eq_of_lt b
@@ -135,8 +135,8 @@ module _ (c : Counts) (nodes roots : List ℕ) (s : Shape) (f : WellFormed c nod
       leaf_same t =
           let g = f.node i h in
           by_leaf (λ k. w.tag ≡ k → leaf_value goldilocks walked k w.x w.y ≡ leaf_value goldilocks own k w.x w.y)
-          (λ e. ap base (word_low c.bases bases old-bases w.x (g.base_const e).0))
-          (λ e. ap ext (triple_low c.exts exts old-exts w.x (g.ext_const e).0))
+          (λ e. ap base (word_low c.bases bases old_bases w.x (g.base_const e).0))
+          (λ e. ap ext (triple_low c.exts exts old_exts w.x (g.ext_const e).0))
           (λ e. rw (row_is (offset_of w.y) (step_in e)) refl)
           (λ e. refl)
           (λ e. refl)

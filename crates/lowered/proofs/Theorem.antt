@@ -250,9 +250,9 @@ any_liveness_is_faithful B X K u c nodes roots bases exts s v h₈ h₇ h₁₃ 
     let made = lowered c nodes roots bases exts v in
     let begin : Begin c made made.nodes made.roots = record { node = λ i h. refl; root = λ r h. refl } in
     let fits = lowered_fits c nodes roots bases exts s v h₈ formed h₁₃ in
-    let base-roots = leading_base c nodes roots h₁₂ in (
-      check_passes K u c nodes roots bases exts s v formed sound made.nodes made.roots begin fits base-roots,
-      λ r h. rw (end_slots K u c nodes roots bases exts s v formed sound made.nodes made.roots begin fits base-roots)
-          (end_root K u c nodes roots bases exts s v formed sound made.nodes made.roots begin fits base-roots r h
+    let base_roots = leading_base c nodes roots h₁₂ in (
+      check_passes K u c nodes roots bases exts s v formed sound made.nodes made.roots begin fits base_roots,
+      λ r h. rw (end_slots K u c nodes roots bases exts s v formed sound made.nodes made.roots begin fits base_roots)
+          (end_root K u c nodes roots bases exts s v formed sound made.nodes made.roots begin fits base_roots r h
           ∙ ap some (sym (value_stays K (leaves_of u) nodes (get_or roots r 0) c.nodes (formed.root r h)))),
     )

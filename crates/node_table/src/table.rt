@@ -1,9 +1,9 @@
 // The nodes in lent words, shared through hash places: a place holds 0 where it is free, or a node's id + 1.
 ghost use Rattle.std.specs.Prelude.{◌≡◌, ◌+◌, ◌*◌, ◌/◌, ◌<◌, ◌≤◌, min, length};
 ghost use Rattle.ir.specs.Words.{node_at};
-ghost use Rattle.node_table.specs.Words.{words_of, put, same as sameOf};
+ghost use Rattle.node_table.specs.Words.{words_of, put, same as same_of};
 ghost use Rattle.node_table.specs.Hashing.{mixed, hash_of, start_of};
-ghost use Rattle.node_table.specs.Table.{table, next as next_of, stops as stopsOf, find as findOf, push as pushOf};
+ghost use Rattle.node_table.specs.Table.{table, next as next_of, stops as stops_of, find as find_of, push as push_of};
 ghost use Rattle.node_table.specs.Puts.{Pushes};
 
 use ir::program::MOST;
@@ -61,7 +61,7 @@ fn load(nodes: &[u32], i: usize) -> Node
 }
 
 fn same(a: Node, b: Node) -> bool
-    ensures { result ≡ sameOf (words_of a) (words_of b) }
+    ensures { result ≡ same_of (words_of a) (words_of b) }
 {
     if a.tag != b.tag {
         return false;
@@ -78,7 +78,7 @@ fn same(a: Node, b: Node) -> bool
 // Whether a lookup of w stops at a place that holds v: it is free, or names an equal node.
 fn stops(nodes: &[u32], count: usize, w: Node, v: usize) -> bool
     requires { 4 * count ≤ length nodes.now }
-    ensures { result ≡ stopsOf nodes.now count (words_of w) v }
+    ensures { result ≡ stops_of nodes.now count (words_of w) v }
 {
     if v == 0 {
         return true;
@@ -93,7 +93,7 @@ fn stops(nodes: &[u32], count: usize, w: Node, v: usize) -> bool
 // neither. It looks at no place twice, whatever the words.
 fn find(nodes: &[u32], count: usize, places: &[u32], w: Node) -> usize
     requires { 4 * count ≤ length nodes.now }
-    ensures { result ≡ findOf (start_of (length places.now) (words_of w)) (table nodes.now places.now count) (words_of w) }
+    ensures { result ≡ find_of (start_of (length places.now) (words_of w)) (table nodes.now places.now count) (words_of w) }
 {
     let k = places.len();
     if k == 0 {
@@ -150,7 +150,7 @@ pub fn room(nodes: usize, places: usize) -> usize
 // An equal node's id, or the node is appended.
 pub fn push(nodes: &mut [u32], count: usize, places: &mut [u32], w: Node) -> Put
     requires { 4 * count ≤ length nodes.old }
-    ensures { Pushes (pushOf (start_of (length places.old) (words_of w)) (table nodes.old places.old count) (words_of w)) count result nodes.new places.new }
+    ensures { Pushes (push_of (start_of (length places.old) (words_of w)) (table nodes.old places.old count) (words_of w)) count result nodes.new places.new }
 {
     let at = find(nodes, count, places, w);
     if places.len() <= at {

@@ -21,7 +21,7 @@ pub record Marked (nodes : List ℕ) (n width : ℕ) (old new : List ℕ) : Type
 abbrev pub is_marked : List ℕ → ℕ → Bool
 is_marked map c = eqb (get_or map c 0) 1
 
--- what is said once the program is known to be well_formed
+-- what is said once the program is known to be well-formed
 abbrev pub listed_said : List ℕ → ℕ → Said
 listed_said columns room = first (row (ltb room (length columns)) 10 ∷ []) (gives (length columns ∷ []))
 

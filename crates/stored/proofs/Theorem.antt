@@ -84,28 +84,28 @@ module _ (c : BlobCounts) (t : Tables) (counted : Counted c) (short : distance c
       let bs = spread 8 b in
       let xs = spread 8 x in
       let rs = spread 4 r in
-      let b-long : length (below_p t.bases) ≡ length t.bases = length-map t.bases (λ w. w % p) in
-      let x-long : length (below_p t.exts) ≡ length t.exts = length-map t.exts (λ w. w % p) in
-      let b-fit : Below p b = below_take c.bases (below_p t.bases) (rw b-long l.bases_long) (below_p_lem t.bases) in
-      let x-fit : Below p x = below_take (3 * c.exts) (below_p t.exts) (rw x-long l.exts_long) (below_p_lem t.exts) in
-      let n-at : length ns ≡ 16 * c.nodes = nodes_bytes c t l ∙ omega arith in
+      let b_long : length (below_p t.bases) ≡ length t.bases = length-map t.bases (λ w. w % p) in
+      let x_long : length (below_p t.exts) ≡ length t.exts = length-map t.exts (λ w. w % p) in
+      let b_fit : Below p b = below_take c.bases (below_p t.bases) (rw b_long l.bases_long) (below_p_lem t.bases) in
+      let x_fit : Below p x = below_take (3 * c.exts) (below_p t.exts) (rw x_long l.exts_long) (below_p_lem t.exts) in
+      let n_at : length ns ≡ 16 * c.nodes = nodes_bytes c t l ∙ omega arith in
       let b_at : length (ns ++ bs) ≡ 16 * c.nodes + 8 * c.bases = two_bytes c t l ∙ omega arith in
-      let x-at : length (ns ++ bs ++ xs) ≡ 16 * c.nodes + 8 * c.bases + 24 * c.exts = three_bytes c t l ∙ omega arith in
-      let nodes-read =
+      let x_at : length (ns ++ bs ++ xs) ≡ 16 * c.nodes + 8 * c.bases + 24 * c.exts = three_bytes c t l ∙ omega arith in
+      let nodes_read =
       ap (words 4 (4 * c.nodes)) (from_first ns bs xs rs ending ∙ sym (drop_none (ns ++ (bs ++ (xs ++ (rs ++ ending))))))
       ∙ words_part 4 [] n (bs ++ (xs ++ (rs ++ ending))) 0 (4 * c.nodes) refl (length-take-le (4 * c.nodes) t.nodes l.nodes_long) (below_take (4 * c.nodes) t.nodes l.nodes_long nodes_fit) in
-      let bases-read =
+      let bases_read =
       ap (λ (f : List ℕ). below_p (words 8 c.bases (drop (16 * c.nodes) f))) (from_first ns bs xs rs ending)
-      ∙ ap below_p (words_part 8 ns b (xs ++ (rs ++ ending)) (16 * c.nodes) c.bases n-at (length-take-le c.bases (below_p t.bases) (rw b-long l.bases_long)) (eight_fit b-fit))
-      ∙ below_kept b b-fit in
-      let exts-read =
+      ∙ ap below_p (words_part 8 ns b (xs ++ (rs ++ ending)) (16 * c.nodes) c.bases n_at (length-take-le c.bases (below_p t.bases) (rw b_long l.bases_long)) (eight_fit b_fit))
+      ∙ below_kept b b_fit in
+      let exts_read =
       ap (λ (f : List ℕ). below_p (words 8 (3 * c.exts) (drop (16 * c.nodes + 8 * c.bases) f))) (from_third ns bs xs rs ending)
-      ∙ ap below_p (words_part 8 (ns ++ bs) x (rs ++ ending) (16 * c.nodes + 8 * c.bases) (3 * c.exts) b_at (length-take-le (3 * c.exts) (below_p t.exts) (rw x-long l.exts_long)) (eight_fit x-fit))
-      ∙ below_kept x x-fit in
-      let roots-read =
+      ∙ ap below_p (words_part 8 (ns ++ bs) x (rs ++ ending) (16 * c.nodes + 8 * c.bases) (3 * c.exts) b_at (length-take-le (3 * c.exts) (below_p t.exts) (rw x_long l.exts_long)) (eight_fit x_fit))
+      ∙ below_kept x x_fit in
+      let roots_read =
       ap (λ (f : List ℕ). words 4 c.roots (drop (16 * c.nodes + 8 * c.bases + 24 * c.exts) f)) (from_fourth ns bs xs rs ending)
-      ∙ words_part 4 (ns ++ bs ++ xs) r ending (16 * c.nodes + 8 * c.bases + 24 * c.exts) c.roots x-at (length-take-le c.roots t.roots l.roots_long) (below_take c.roots t.roots l.roots_long roots_fit) in
-      tables_same nodes-read bases-read exts-read roots-read
+      ∙ words_part 4 (ns ++ bs ++ xs) r ending (16 * c.nodes + 8 * c.bases + 24 * c.exts) c.roots x_at (length-take-le c.roots t.roots l.roots_long) (below_take c.roots t.roots l.roots_long roots_fit) in
+      tables_same nodes_read bases_read exts_read roots_read
 
 -- ---- read, then written
 
@@ -124,9 +124,9 @@ module _ (c : BlobCounts) (file : List ℕ) where
   -- the tables are the bytes before the trailer
   pub body_back : Below 256 file → 4 * distance c ≤ length file → ConstantsBelow → body (tables_in c file) ≡ take (4 * distance c) file
   body_back bytes h q =
-      let b-left = length-drop (16 * c.nodes) file in
-      let x-left = length-drop to_exts file in
-      let r-left = length-drop to_roots file in
+      let b_left = length-drop (16 * c.nodes) file in
+      let x_left = length-drop to_exts file in
+      let r_left = length-drop to_roots file in
       let e₁ : 4 * (4 * c.nodes) ≡ 16 * c.nodes = omega arith in
       let e₃ : 8 * (3 * c.exts) ≡ 24 * c.exts = omega arith in
       let e₄ : to_roots + 4 * c.roots ≡ 4 * distance c = omega arith in

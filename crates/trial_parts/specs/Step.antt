@@ -63,7 +63,7 @@ pub record Put (v : Value ℕ (List ℕ)) (class i : ℕ) (old new : List ℕ) :
   pub value_is : ValueIs v class limbs
   pub stored : new ≡ sets old (4 * i) (class ∷ tabulate 3 (limb limbs))
 
--- what a well_formed operation asks besides its first operand's id, where dims are the classes in the room
+-- what a well-formed operation asks besides its first operand's id, where dims are the classes in the room
 unfoldable pub operands_ok : List ℕ → ℕ → ℕ → ℕ → ℕ → ℕ → Bool
 operands_ok room i tag x y dim =
     cond (ltb tag neg) (ltb y i && eqb dim (joined (get_or room (4 * x) 0) (get_or room (4 * y) 0)))

@@ -58,7 +58,7 @@ module _ (s : Strides) (m : Limits) (c : Counts) (l : Lent) (f : Fits s m c l) w
       ten : {t : ℕ} → 9 ≤ t → (t ≡ 9 → ⊥) → t ≤ 10 → t ≡ 10
       ten a b d = omega arith
 
-  -- one node that is well_formed and inside
+  -- one node that is well-formed and inside
   pub node_ready : (nodes : List ℕ) (i : ℕ) → NodeFacts c nodes i (node_at nodes i) → node_outside m nodes i ≡ false → NodeReady s l i (node_at nodes i).tag (node_at nodes i).x (node_at nodes i).y
   node_ready nodes i n h =
       let t = node_at nodes i in

@@ -68,7 +68,7 @@ same_some {x = x} {y = y} e f = some-injective x y (sym e ∙ f)
 
 module _ (c : BlobCounts) (m : Slots ℕ (List ℕ)) (old mid : List ℕ) (h : RoomKept c m old mid) (long : slot_words c ≤ length mid) where
   -- a base value in base slot k
-  module _ (k x r : ℕ) (in-class : k < base_slots_of c) (value : r ≈ x) (below : r < p) where
+  module _ (k x r : ℕ) (in_class : k < base_slots_of c) (value : r ≈ x) (below : r < p) where
     abbrev after₀ : Slots ℕ (List ℕ)
     after₀ = record { bases = upd m.bases k (some x); exts = m.exts }
 
@@ -80,7 +80,7 @@ module _ (c : BlobCounts) (m : Slots ℕ (List ℕ)) (old mid : List ℕ) (h : R
                 bases = λ j y e.
                     by_test (eqb j k) ((j < base_slots_of c) × (get_or (set mid k r) j 0 ≈ y))
                     (λ t. let q = eqb-true j k t in
-                    rw (q, get_or-set_same mid k r 0 (omega arith)) (in-class, value then equal (same_some (upd_here m.bases k (some x)) (rw q at e))))
+                    rw (q, get_or-set_same mid k r 0 (omega arith)) (in_class, value then equal (same_some (upd_here m.bases k (some x)) (rw q at e))))
                     (λ t. let n = eqb-false j k t in let z = h.holds.bases j y (sym (upd_other m.bases k (some x) j n) ∙ e) in
                     rw (get_or-set_other mid k j r 0 n) z);
                 exts = λ j y e. let z = h.holds.exts j y e in rw (after_limbs mid (r ∷ []) k (ext_word c j) (omega arith)) z;
@@ -100,7 +100,7 @@ module _ (c : BlobCounts) (m : Slots ℕ (List ℕ)) (old mid : List ℕ) (h : R
         }
 
   -- an extension value in extension slot k
-  module _ (k : ℕ) (x ws : List ℕ) (in-class : k < ext_slots_of c) (stands : Limbs 3 x ws) where
+  module _ (k : ℕ) (x ws : List ℕ) (in_class : k < ext_slots_of c) (stands : Limbs 3 x ws) where
     abbrev after₁ : Slots ℕ (List ℕ)
     after₁ = record { bases = m.bases; exts = upd m.exts k (some x) }
 
@@ -116,7 +116,7 @@ module _ (c : BlobCounts) (m : Slots ℕ (List ℕ)) (old mid : List ℕ) (h : R
                 exts = λ j y e.
                     by_test (eqb j k) ((j < ext_slots_of c) × Near 3 (limbs_at (sets mid (ext_word c k) ws) (ext_word c j)) y)
                     (λ t. let q = eqb-true j k t in
-                    rw (q, here) (in-class, rw (← same_some (upd_here m.exts k (some x)) (rw q at e)) (limbs_near stands)))
+                    rw (q, here) (in_class, rw (← same_some (upd_here m.exts k (some x)) (rw q at e)) (limbs_near stands)))
                     (λ t. let n = eqb-false j k t in rw (other_limbs c mid ws j k stands.long n) (h.holds.exts j y (sym (upd_other m.exts k (some x) j n) ∙ e)));
               };
           base_low = λ j y e. let z = h.holds.bases j y e in rw (before_word mid ws (ext_word c k) j (omega arith)) (h.base_low j y e);
@@ -129,7 +129,7 @@ module _ (c : BlobCounts) (m : Slots ℕ (List ℕ)) (old mid : List ℕ) (h : R
               by_test (eqb j k) (limbs_at (sets mid (ext_word c k) ws) (ext_word c j) ≡ limbs_at old (ext_word c j))
               (λ t. none_some (rw (eqb-true j k t) at e) (upd_here m.exts k (some x)))
               (λ t. let n = eqb-false j k t in other_limbs c mid ws j k stands.long n ∙ h.ext_kept j l (sym (upd_other m.exts k (some x) j n) ∙ e));
-          rest = sets_after ws mid (ext_word c k) (slot_words c) (rw stands.long (let q = block_before 3 in-class in omega arith)) ∙ h.rest;
+          rest = sets_after ws mid (ext_word c k) (slot_words c) (rw stands.long (let q = block_before 3 in_class in omega arith)) ∙ h.rest;
           long = length-sets mid (ext_word c k) ws ∙ h.long;
         }
 
