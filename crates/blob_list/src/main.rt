@@ -36,6 +36,7 @@ fn list<R: Read, W: Write>(input: &mut R, output: &mut W) -> io::Result<()>
     list_over(input, output, &mut file, &mut text)
 }
 
+// What standard input gives is known to no clause, so of this run `list` promises nothing: tests hold what it prints.
 fn main(rt: HostRuntime) -> io::Result<()> {
     list(&mut rt.reader(), &mut io::writer(&rt))
 }
