@@ -1,11 +1,15 @@
 // Lowering of a case, held to the line. What is lent for writing is the first part of longer rooms, and all of each room
 // is held: what the call has to leave, lent or not, is as it was.
-use super::lower_line::{Case, Rooms};
+use super::lower_case::Case;
+use blob_rules::blob::{BlobCounts, TableRooms};
+use host_answer::answer::coded_refusal;
+use ir::program::{Counts, ProgramRef};
+use ir::refusal::Refusal;
 use lower::lower::lower;
-use lower_parts::parts::Lowering;
-use sample::answer::refusal_number;
-use sample::line::{least, part, times};
-use sample::seen::{KEPT, KEPT_SHORT, Seen, hold, hold_list, hold_shorts, hold_written};
+use lower_parts::parts::Lists;
+use sample::fault::Fault;
+use sample::line::Line;
+use sample::word::{Word, lent};
 
 // There is room for so many words of each list but that of free slots, which has twice as many, and of the blob.
 const LIST_WORDS: usize = 64;
@@ -20,198 +24,111 @@ const EXT_WORDS: usize = 96;
 
 const ROOTS: usize = 64;
 
-// Whether the lists that the line asks for are there,
-fn lists_fit(r: Rooms) -> bool {
-    if LIST_WORDS < r.used {
-        return false;
-    }
-    if LIST_WORDS < r.last_use {
-        return false;
-    }
-    if LIST_WORDS < r.is_root {
-        return false;
-    }
-    if LIST_WORDS < r.slot_of {
-        return false;
-    }
-    r.free <= FREE_WORDS
+// The lists that a call borrows, and the tables of its blob.
+#[derive(Drop)]
+struct Written {
+    used: [u32; LIST_WORDS],
+    last_use: [u32; LIST_WORDS],
+    is_root: [u32; LIST_WORDS],
+    slot_of: [u32; LIST_WORDS],
+    free: [u32; FREE_WORDS],
+    nodes: [u32; NODE_WORDS],
+    bases: [u64; BASES],
+    exts: [u64; EXT_WORDS],
+    roots: [u32; ROOTS],
 }
 
-// and the tables too.
-pub fn rooms_fit(r: Rooms) -> bool {
-    if NODE_WORDS < r.nodes {
-        return false;
+impl Written {
+    fn new() -> Written {
+        Written {
+            used: [u32::KEPT; LIST_WORDS],
+            last_use: [u32::KEPT; LIST_WORDS],
+            is_root: [u32::KEPT; LIST_WORDS],
+            slot_of: [u32::KEPT; LIST_WORDS],
+            free: [u32::KEPT; FREE_WORDS],
+            nodes: [u32::KEPT; NODE_WORDS],
+            bases: [u64::KEPT; BASES],
+            exts: [u64::KEPT; EXT_WORDS],
+            roots: [u32::KEPT; ROOTS],
+        }
     }
-    if BASES < r.bases {
-        return false;
+
+    // The blob's counts that are its own, and its tables.
+    fn hold_blob(&self, line: &mut Line, c: Counts, blob: BlobCounts) -> Result<(), Fault> {
+        line.hold(u64::from(blob.nodes))?;
+        line.hold(u64::from(blob.base_slots))?;
+        line.hold(u64::from(blob.ext_slots))?;
+        line.hold_written(&self.nodes, 0..4 * (blob.nodes as usize))?;
+        line.hold_written(&self.bases, 0..c.bases)?;
+        line.hold_written(&self.exts, 0..c.exts.saturating_mul(3))?;
+        line.hold_written(&self.roots, 0..c.roots)
     }
-    if EXT_WORDS < r.exts {
-        return false;
+
+    // No blob is written.
+    fn hold_no_blob(&self, line: &Line) -> Result<(), Fault> {
+        line.hold_kept(&self.nodes)?;
+        line.hold_kept(&self.bases)?;
+        line.hold_kept(&self.exts)?;
+        line.hold_kept(&self.roots)
     }
-    if ROOTS < r.roots {
-        return false;
+
+    // The lists of so many nodes are 0.
+    fn hold_lists(&self, line: &Line, n: usize) -> Result<(), Fault> {
+        line.hold_cleared(&self.used, n)?;
+        line.hold_cleared(&self.last_use, n)?;
+        line.hold_cleared(&self.is_root, n)?;
+        line.hold_cleared(&self.slot_of, n)?;
+        line.hold_cleared(&self.free, n.saturating_mul(2))
     }
-    lists_fit(r)
 }
 
-// What the call said: its answer, and on 0 the blob's nodes and slots.
-#[derive(Clone, Copy)]
-struct Said {
-    answer: u64,
-    nodes: u32,
-    base_slots: u32,
-    ext_slots: u32,
+fn lower_case(case: &Case, written: &mut Written) -> Result<Result<BlobCounts, Refusal>, Fault> {
+    let rooms = case.rooms;
+    let program = ProgramRef {
+        counts: case.counts,
+        nodes: case.nodes,
+        bases: case.bases,
+        exts: case.exts,
+        roots: case.roots,
+    };
+    let mut lists = Lists {
+        used: lent(&mut written.used, rooms.used)?,
+        last_use: lent(&mut written.last_use, rooms.last_use)?,
+        is_root: lent(&mut written.is_root, rooms.is_root)?,
+        slot_of: lent(&mut written.slot_of, rooms.slot_of)?,
+        free: lent(&mut written.free, rooms.free)?,
+    };
+    let mut out = TableRooms {
+        nodes: lent(&mut written.nodes, rooms.nodes)?,
+        bases: lent(&mut written.bases, rooms.bases)?,
+        exts: lent(&mut written.exts, rooms.exts)?,
+        roots: lent(&mut written.roots, rooms.roots)?,
+    };
+    Ok(lower(&program, &mut lists, &mut out))
 }
 
-fn said_of(lowering: Lowering) -> Said {
-    match lowering {
-        Lowering::Lowered(k) => Said {
-            answer: 0,
-            nodes: k.nodes,
-            base_slots: k.base_slots,
-            ext_slots: k.ext_slots,
-        },
-        Lowering::Refused(why) => Said {
-            answer: refusal_number(why),
-            nodes: 0,
-            base_slots: 0,
-            ext_slots: 0,
-        },
-    }
-}
-
-// Lowering over the first words of rooms.
-fn lower_case(
-    line: &[u64],
-    case: Case,
-    rooms: Rooms,
-    nodes: &[u32],
-    roots: &[u32],
-    used: &mut [u32],
-    last_use: &mut [u32],
-    is_root: &mut [u32],
-    slot_of: &mut [u32],
-    free: &mut [u32],
-    out_nodes: &mut [u32],
-    out_bases: &mut [u64],
-    out_exts: &mut [u64],
-    out_roots: &mut [u32],
-) -> Said {
-    let used_lent = least(rooms.used, used.len());
-    let last_lent = least(rooms.last_use, last_use.len());
-    let root_lent = least(rooms.is_root, is_root.len());
-    let slot_lent = least(rooms.slot_of, slot_of.len());
-    let free_lent = least(rooms.free, free.len());
-    let nodes_lent = least(rooms.nodes, out_nodes.len());
-    let bases_lent = least(rooms.bases, out_bases.len());
-    let exts_lent = least(rooms.exts, out_exts.len());
-    let roots_lent = least(rooms.roots, out_roots.len());
-    said_of(lower(
-        case.counts,
-        nodes,
-        part(line, case.bases, case.exts),
-        part(line, case.exts, case.roots),
-        roots,
-        &mut used[..used_lent],
-        &mut last_use[..last_lent],
-        &mut is_root[..root_lent],
-        &mut slot_of[..slot_lent],
-        &mut free[..free_lent],
-        &mut out_nodes[..nodes_lent],
-        &mut out_bases[..bases_lent],
-        &mut out_exts[..exts_lent],
-        &mut out_roots[..roots_lent],
-    ))
-}
-
-// The answer, and on 0 the counts that are the blob's own.
-fn hold_said(line: &[u64], seen: Seen, said: Said) -> Seen {
-    let answered = hold(line, seen, said.answer);
-    if said.answer != 0 {
-        return answered;
-    }
-    let counted = hold(line, answered, said.nodes as u64);
-    let based = hold(line, counted, said.base_slots as u64);
-    hold(line, based, said.ext_slots as u64)
-}
-
-// The blob's tables: on 0 the line's next numbers, else as they were.
-fn hold_tables(
-    line: &[u64],
-    case: Case,
-    said: Said,
-    seen: Seen,
-    nodes: &[u32],
-    bases: &[u64],
-    exts: &[u64],
-    roots: &[u32],
-) -> Seen {
-    let done = said.answer == 0;
-    let base_count = if done { case.counts.bases } else { 0 };
-    let ext_count = if done { case.counts.exts } else { 0 };
-    let root_count = if done { case.counts.roots } else { 0 };
-    let node_words = hold_shorts(line, seen, nodes, times(4, said.nodes as usize));
-    let base_words = hold_written(line, node_words, bases, 0, base_count);
-    let ext_words = hold_written(line, base_words, exts, 0, times(3, ext_count));
-    hold_shorts(line, ext_words, roots, root_count)
-}
-
-// How many nodes' words of a list are 0: all after 0 and 10, else none.
-fn cleared(n: usize, answer: u64) -> usize {
-    match answer {
-        0 | 10 => n,
+// How many nodes' words of a list a refusal leaves 0: all after 10, where the blob has no room, else none.
+fn cleared(n: usize, why: Refusal) -> usize {
+    match why {
+        Refusal::ShortOutput => n,
         _ => 0,
     }
 }
 
-// The lists of so many nodes are 0, and all else of them is as it was.
-fn hold_lists(
-    seen: Seen,
-    n: usize,
-    used: &[u32],
-    last_use: &[u32],
-    is_root: &[u32],
-    slot_of: &[u32],
-    free: &[u32],
-) -> Seen {
-    let after_used = hold_list(seen, used, n);
-    let after_last = hold_list(after_used, last_use, n);
-    let after_root = hold_list(after_last, is_root, n);
-    let after_slot = hold_list(after_root, slot_of, n);
-    hold_list(after_slot, free, times(2, n))
-}
-
-pub fn hold_lower(line: &[u64], case: Case, rooms: Rooms, nodes: &[u32], roots: &[u32]) -> Seen {
-    let mut used = [KEPT_SHORT; LIST_WORDS];
-    let mut last_use = [KEPT_SHORT; LIST_WORDS];
-    let mut is_root = [KEPT_SHORT; LIST_WORDS];
-    let mut slot_of = [KEPT_SHORT; LIST_WORDS];
-    let mut free = [KEPT_SHORT; FREE_WORDS];
-    let mut out_nodes = [KEPT_SHORT; NODE_WORDS];
-    let mut out_bases = [KEPT; BASES];
-    let mut out_exts = [KEPT; EXT_WORDS];
-    let mut out_roots = [KEPT_SHORT; ROOTS];
-    let said = lower_case(
-        line,
-        case,
-        rooms,
-        nodes,
-        roots,
-        &mut used,
-        &mut last_use,
-        &mut is_root,
-        &mut slot_of,
-        &mut free,
-        &mut out_nodes,
-        &mut out_bases,
-        &mut out_exts,
-        &mut out_roots,
-    );
-    let start = Seen::Agrees { at: case.answer };
-    let answered = hold_said(line, start, said);
-    let written = hold_tables(
-        line, case, said, answered, &out_nodes, &out_bases, &out_exts, &out_roots,
-    );
-    let n = cleared(case.counts.nodes, said.answer);
-    hold_lists(written, n, &used, &last_use, &is_root, &slot_of, &free)
+pub fn hold_lower(line: &mut Line, case: &Case) -> Result<(), Fault> {
+    let mut written = Written::new();
+    let n = case.counts.nodes;
+    match lower_case(case, &mut written)? {
+        Ok(blob) => {
+            line.hold(0)?;
+            written.hold_blob(line, case.counts, blob)?;
+            written.hold_lists(line, n)?;
+        }
+        Err(why) => {
+            line.hold(coded_refusal(why))?;
+            written.hold_no_blob(line)?;
+            written.hold_lists(line, cleared(n, why))?;
+        }
+    }
+    line.end()
 }

@@ -4,59 +4,52 @@
 // rust/differential/src/blobs/sample.rs and rust/differential/src/lowering/sample.rs say what the numbers are.
 #![tactic(auto)]
 
-mod blob;
 mod blob_calls;
-mod blob_line;
+mod blob_case;
 mod lower_calls;
-mod lower_line;
-mod lowered;
+mod lower_case;
 
-use blob::replay_blob;
-use lowered::replay_lowered;
+use blob_calls::hold_calls;
+use lower_calls::hold_lower;
+use sample::fault::Fault;
 use sample::input::sample_numbers;
-use sample::line::{line_end, number_at, part};
-use sample::report::{report, say_number};
-use sample::seen::Seen;
+use sample::line::{Line, Lines};
+use sample::report::report;
 use std::io;
 
-// There is room for so many numbers.
+// There is room for so many numbers,
 const NUMBERS: usize = 16384;
 
+// and for so many words of a case's nodes and roots.
+const NODE_WORDS: usize = 256;
+
+const ROOTS: usize = 64;
+
 // A line says of which kind it is: 1, a blob with a frame; 2, a program to be lowered.
-fn replay(line: &[u64]) -> Seen {
-    match number_at(line, 1) {
-        1 => replay_blob(line),
-        2 => replay_lowered(line),
-        _ => Seen::UnknownKind,
+fn replay(numbers: &[u64]) -> Result<(), Fault> {
+    let mut line = Line::new(numbers);
+    let mut nodes = [0u32; NODE_WORDS];
+    let mut roots = [0u32; ROOTS];
+    let _length = line.number();
+    match line.number() {
+        1 => {
+            let case = blob_case::read_case(&mut line, &mut nodes, &mut roots)?;
+            hold_calls(&mut line, &case)
+        }
+        2 => {
+            let case = lower_case::read_case(&mut line, &mut nodes, &mut roots)?;
+            hold_lower(&mut line, &case)
+        }
+        _ => Err(Fault::UnknownKind),
     }
-}
-
-fn replay_part(
-    rt: &impl Print,
-    numbers: &[u64],
-    case: u64,
-    from: usize,
-    to: usize,
-) -> io::Result<()> {
-    let line = part(numbers, from, to);
-    say_number(rt, b"case ", case)?;
-    report(rt, line, replay(line))
-}
-
-fn replay_all(rt: &impl Print, numbers: &[u64]) -> io::Result<()> {
-    let mut case: u64 = 0;
-    let mut at: usize = 0;
-    while at < numbers.len() {
-        let end = line_end(numbers, at);
-        replay_part(rt, numbers, case, at, end)?;
-        case += 1;
-        at = end;
-    }
-    Ok(())
 }
 
 fn main(rt: HostRuntime) -> io::Result<()> {
-    let mut numbers = [0u64; NUMBERS];
-    let count = sample_numbers(&rt, &mut numbers)?;
-    replay_all(&rt, part(&numbers, 0, count))
+    let mut room = [0u64; NUMBERS];
+    let numbers = sample_numbers(&rt, &mut room)?;
+    for (case, line) in Lines::new(numbers).enumerate() {
+        print!(rt; "case {case}")?;
+        report(&rt, replay(line))?;
+    }
+    Ok(())
 }

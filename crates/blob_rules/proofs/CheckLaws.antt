@@ -2,7 +2,7 @@
 -- Assumes nothing.
 use mathlib.Core.Bool.{Bool, false}
 use mathlib.Core.List.{List, [], ◌∷◌}
-use mathlib.Core.Option.{none}
+use Rattle.std.specs.Prelude.{None}
 use mathlib.Core.Path.{◌≡◌, refl}
 use Prim.Native.Nat.{ℕ, zero, suc, ◌<◌, ◌≤◌}
 use native.Mathlib.Omega.{arith}
@@ -14,7 +14,7 @@ use Rattle.blob_rules.specs.Blob.{Instr, kind_of, payload_of, tags, kinds}
 use Rattle.blob_rules.specs.Check.{Filled, kind_ok, operand_ok, form_ok, node_ok}
 
 -- past a list's end there is nothing
-pub at_past : {A : Type 0} (l : List A) (k : ℕ) → length l ≤ k → at l k ≡ none
+pub at_past : {A : Type 0} (l : List A) (k : ℕ) → length l ≤ k → at l k ≡ None
 at_past [] k h = refl
 at_past (x ∷ xs) zero h = absurd (omega arith)
 at_past (x ∷ xs) (suc k) h = at_past xs k (omega arith)

@@ -2,14 +2,15 @@
 -- Assumes nothing.
 use mathlib.Core.Bool.{Bool, true, false, cond, not, ◌&&◌}
 use mathlib.Core.List.{List, [], ◌∷◌, ◌++◌}
-use mathlib.Core.Option.{Option, none, some}
+use Rattle.std.specs.Prelude.{Option, None, Some}
 use mathlib.Core.Path.{◌≡◌, refl, sym, ap, ap₂, ◌∙◌}
 use Prim.Native.Nat.{ℕ, suc, ◌+◌, ◌-◌, ◌<◌, ◌≤◌}
 use native.Mathlib.Numerals.{add-one}
 use native.Mathlib.Omega.{arith}
 use lib.Dec.{eqb, ltb}
-use lib.ListN.{length, get_or, set, drop, replicate, length-set, length-append, length-drop, length-replicate, get_or-replicate, replicate-append-replicate, get_or-append}
+use lib.ListN.{length, get_or, set, take, drop, replicate, length-set, length-append, length-drop, length-replicate, get_or-replicate, replicate-append-replicate, get_or-append}
 use lib.Seq.{get_or-set_same, get_or-set_other, drop-set-lt, drop-cons, drop_at, set_at, append_snoc}
+use Rattle.std.proofs.lemmas.List.{length-take-le}
 use borrow.Author.Tests.{eqb-true, eqb-false, ltb-true}
 use Rattle.laws.specs.Folds.{lowest}
 use Rattle.laws.specs.Maps.{upd}
@@ -19,7 +20,6 @@ use Rattle.laws.proofs.Folds.{none_some, lowest_start, lowest_on, lowest_at, low
 use Rattle.laws.proofs.Maps.{upd_here, upd_other}
 use Rattle.laws.proofs.Tests.{clash, and_right, not_not}
 use Rattle.ir.specs.declared.frame.Shape.{Shape}
-use Rattle.ir.specs.declared.refusal.Place.TheVariants.{At, Nowhere}
 use Rattle.ir.specs.Words.{main_of}
 use Rattle.blob_rules.specs.declared.blob.BlobCounts.{BlobCounts}
 use Rattle.blob_rules.specs.Blob.{Instr, instr_at, base_slots_of, ext_slots_of, is_ext, slot_of, kind_of, payload_of, size_of, ext_table, Form, entry, cell, offset, binary, negation, embedding, tags, Kind, base_slot, ext_slot, of, the_offset, kinds}
@@ -38,24 +38,24 @@ module _ (c : BlobCounts) (f g : Filled) (h : Alike c f g) where
 
   module _ (tags : List Form) (kinds : List Kind) (s : Shape) where
     alike_kind : (wide : Bool) (o : Option Kind) (k : ℕ) → kind_ok tags kinds c s f wide o k ≡ kind_ok tags kinds c s g wide o k
-    alike_kind wide none k = refl
-    alike_kind wide (some base_slot) k = alike_filled false k
-    alike_kind wide (some ext_slot) k = ap (λ (z : Bool). wide && z) (alike_filled true k)
-    alike_kind wide (some (of t)) k = refl
-    alike_kind wide (some the_offset) k = refl
+    alike_kind wide None k = refl
+    alike_kind wide (Some base_slot) k = alike_filled false k
+    alike_kind wide (Some ext_slot) k = ap (λ (z : Bool). wide && z) (alike_filled true k)
+    alike_kind wide (Some (of t)) k = refl
+    alike_kind wide (Some the_offset) k = refl
 
     alike_operand : (wide : Bool) (w : ℕ) → operand_ok tags kinds c s f wide w ≡ operand_ok tags kinds c s g wide w
     unfolding operand_ok
     alike_operand wide w = alike_kind wide (at kinds (kind_of w)) (payload_of w)
 
     alike_form : (o : Option Form) (w : Instr) → form_ok tags kinds c s f o w ≡ form_ok tags kinds c s g o w
-    alike_form none w = refl
-    alike_form (some (entry t)) w = refl
-    alike_form (some cell) w = refl
-    alike_form (some offset) w = refl
-    alike_form (some (binary o)) w = rw (alike_operand (is_ext w.res) w.a, alike_operand (is_ext w.res) w.b)
-    alike_form (some negation) w = rw (alike_operand (is_ext w.res) w.a)
-    alike_form (some embedding) w = rw (alike_operand true w.a)
+    alike_form None w = refl
+    alike_form (Some (entry t)) w = refl
+    alike_form (Some cell) w = refl
+    alike_form (Some offset) w = refl
+    alike_form (Some (binary o)) w = rw (alike_operand (is_ext w.res) w.a, alike_operand (is_ext w.res) w.b)
+    alike_form (Some negation) w = rw (alike_operand (is_ext w.res) w.a)
+    alike_form (Some embedding) w = rw (alike_operand true w.a)
 
     pub alike_node : (w : Instr) → node_ok tags kinds c s f w ≡ node_ok tags kinds c s g w
     unfolding node_ok
@@ -65,13 +65,13 @@ module _ (c : BlobCounts) (f g : Filled) (h : Alike c f g) where
 
 module _ (tags : List Form) (kinds : List Kind) (c : BlobCounts) (s : Shape) (f : Filled) where
   form_slot : (o : Option Form) (w : Instr) → form_ok tags kinds c s f o w ≡ true → slot_in c w.res ≡ true
-  form_slot none w h = clash h refl
-  form_slot (some (entry t)) w h = and_right (cond (ext_table t) (is_ext w.res) (not (is_ext w.res))) (slot_in c w.res) (and_right (ltb w.a (size_of c s t) && eqb w.b 0) (slot_of_class c (ext_table t) w.res) h)
-  form_slot (some cell) w h = and_right (cond (not (main_of w.b)) (is_ext w.res) (not (is_ext w.res))) (slot_in c w.res) (and_right (cell_ok s w.a w.b) (slot_of_class c (not (main_of w.b)) w.res) h)
-  form_slot (some offset) w h = and_right (is_ext w.res) (slot_in c w.res) (and_right (eqb w.a 0 && eqb w.b 0) (slot_of_class c true w.res) h)
-  form_slot (some (binary o)) w h = and_right (operand_ok tags kinds c s f (is_ext w.res) w.a && operand_ok tags kinds c s f (is_ext w.res) w.b) (slot_in c w.res) h
-  form_slot (some negation) w h = and_right (operand_ok tags kinds c s f (is_ext w.res) w.a && eqb w.b 0) (slot_in c w.res) h
-  form_slot (some embedding) w h = and_right (is_ext w.res) (slot_in c w.res) (and_right (operand_ok tags kinds c s f true w.a && eqb w.b 0) (slot_of_class c true w.res) h)
+  form_slot None w h = clash h refl
+  form_slot (Some (entry t)) w h = and_right (cond (ext_table t) (is_ext w.res) (not (is_ext w.res))) (slot_in c w.res) (and_right (ltb w.a (size_of c s t) && eqb w.b 0) (slot_of_class c (ext_table t) w.res) h)
+  form_slot (Some cell) w h = and_right (cond (not (main_of w.b)) (is_ext w.res) (not (is_ext w.res))) (slot_in c w.res) (and_right (cell_ok s w.a w.b) (slot_of_class c (not (main_of w.b)) w.res) h)
+  form_slot (Some offset) w h = and_right (is_ext w.res) (slot_in c w.res) (and_right (eqb w.a 0 && eqb w.b 0) (slot_of_class c true w.res) h)
+  form_slot (Some (binary o)) w h = and_right (operand_ok tags kinds c s f (is_ext w.res) w.a && operand_ok tags kinds c s f (is_ext w.res) w.b) (slot_in c w.res) h
+  form_slot (Some negation) w h = and_right (operand_ok tags kinds c s f (is_ext w.res) w.a && eqb w.b 0) (slot_in c w.res) h
+  form_slot (Some embedding) w h = and_right (is_ext w.res) (slot_in c w.res) (and_right (operand_ok tags kinds c s f true w.a && eqb w.b 0) (slot_of_class c true w.res) h)
 
   pub node_slot : (w : Instr) → node_ok tags kinds c s f w ≡ true → slot_in c w.res ≡ true
   unfolding node_ok
@@ -143,7 +143,7 @@ bad_node c s nodes i = not (node_ok tags kinds c s (filled_after nodes i) (instr
 module _ (c : BlobCounts) (s : Shape) (nodes old : List ℕ) where
   -- none of the first i nodes is, and their slots are marked
   pub record Checking (new : List ℕ) (i : ℕ) : Type 0 where
-    pub none_yet : lowest (bad_node c s nodes) i ≡ none
+    pub none_yet : lowest (bad_node c s nodes) i ≡ None
     pub alike : Alike c (marked c new) (filled_after nodes i)
     pub rest : drop (slot_count c) new ≡ drop (slot_count c) old
     pub long : length new ≡ length old
@@ -172,12 +172,12 @@ module _ (c : BlobCounts) (s : Shape) (nodes old : List ℕ) where
           long = rw z (length-set new (mark_at c (instr_at nodes i).res) 1 ∙ k.long);
         }
 
-    pub checking_stops : {r : Bool} → i < c.nodes → r ≡ node_ok tags kinds c s (marked c new) (instr_at nodes i) → not r ≡ true → NodesChecked (record { counts = c; nodes = nodes; roots = [] }) s (At i) old new
+    pub checking_stops : {r : Bool} → i < c.nodes → r ≡ node_ok tags kinds c s (marked c new) (instr_at nodes i) → not r ≡ true → NodesChecked (record { counts = c; nodes = nodes; roots = [] }) s (Some i) old new
     checking_stops l e t =
         let z = lowest_stays (bad_node c s nodes) (i + 1) {n = c.nodes} (omega arith) (lowest_at (bad_node c s nodes) i k.none_yet (sym (node_tested e) ∙ t)) in
         record { found = sym z; rest = k.rest; long = k.long; filled = λ q. none_some q refl }
 
-    pub checking_ends : i ≡ c.nodes → NodesChecked (record { counts = c; nodes = nodes; roots = [] }) s Nowhere old new
+    pub checking_ends : i ≡ c.nodes → NodesChecked (record { counts = c; nodes = nodes; roots = [] }) s None old new
     checking_ends e =
         record {
           found = rw e at (sym k.none_yet);
@@ -199,6 +199,10 @@ clear_more l i h =
     ∙ set_at (replicate i 0) (get_or l i 0) (drop (suc i) l) 0 i (length-replicate {A = ℕ} i 0)
     ∙ sym (append_snoc (replicate i 0) 0 (drop (suc i) l))
     ∙ ap₂ (λ (s t : List ℕ). s ++ t) (replicate-append-replicate {A = ℕ} i 1 0) (ap (λ (k : ℕ). drop k l) (sym (add-one i)))
+
+-- what `fill` leaves of the first n words, with the rest
+pub filled_front : (n : ℕ) (l front : List ℕ) → n ≤ length l → front ≡ replicate (length (take n l)) 0 → front ++ drop n l ≡ cleared n l
+filled_front n l front h e = rw (e, length-take-le n l h)
 
 pub cleared_long : (n : ℕ) (l : List ℕ) → n ≤ length l → length (cleared n l) ≡ length l
 cleared_long n l h =

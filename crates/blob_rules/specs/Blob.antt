@@ -1,8 +1,11 @@
 -- A blob's words, as device.rs has them: what each word says, and the tables of tags and of operand kinds.
 -- Assumes nothing.
-use Rattle.std.specs.Prelude.{Bool, true, false, List, [], ◌∷◌, ℕ, ◌+◌, ◌*◌, ◌/◌, ◌%◌, leb, get_or}
+use Rattle.std.specs.Prelude.{Bool, true, false, List, [], ◌∷◌, ◌≡◌, ℕ, ◌+◌, ◌*◌, ◌/◌, ◌%◌, leb, get_or}
 use Rattle.ir.specs.declared.frame.Shape.{Shape}
 use Rattle.blob_rules.specs.declared.blob.BlobCounts.{BlobCounts}
+use Rattle.blob_rules.specs.declared.blob.BlobRef.{BlobRef}
+use Rattle.blob_rules.specs.declared.blob.NodeWords.{NodeWords}
+use Rattle.blob_rules.specs.declared.blob.TableRooms.{TableRooms}
 
 -- a node's words
 pub record Instr : Type 0 where
@@ -16,11 +19,24 @@ abbrev pub instr_at : List ℕ → ℕ → Instr
 instr_at l i =
     record { op = get_or l (4 * i) 0; a = get_or l (4 * i + 1) 0; b = get_or l (4 * i + 2) 0; res = get_or l (4 * i + 3) 0 }
 
+-- a node's words, as the program has loaded them
+abbrev pub instr_of : NodeWords → Instr
+instr_of w = record { op = w.op; a = w.a; b = w.b; res = w.res }
+
 -- the counts, and the words of nodes and roots
 pub record Blob : Type 0 where
   pub counts : BlobCounts
   pub nodes : List ℕ
   pub roots : List ℕ
+
+-- the same by the program's slices of them
+abbrev pub lent_blob : BlobRef → Blob
+lent_blob b = record { counts = b.counts; nodes = b.nodes.now; roots = b.roots.now }
+
+-- each room is still the one that was lent
+abbrev pub SameRooms : TableRooms → TableRooms → Type 0
+SameRooms r r' =
+    (r.nodes.ghost_name ≡ r'.nodes.ghost_name) × (r.bases.ghost_name ≡ r'.bases.ghost_name) × (r.exts.ghost_name ≡ r'.exts.ghost_name) × (r.roots.ghost_name ≡ r'.roots.ghost_name)
 
 -- how many base slots there are
 abbrev pub base_slots_of : BlobCounts → ℕ

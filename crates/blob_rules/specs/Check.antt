@@ -1,12 +1,11 @@
 -- The blob check: tests on words, and a record of the slots that were filled. It reads no constant, no cell and no uniform.
 -- Assumes nothing.
-use Rattle.std.specs.Prelude.{Bool, true, false, cond, not, ◌&&◌, ◌||◌, List, [], ◌∷◌, ◌++◌, ◌≡◌, ℕ, zero, suc, ◌+◌, ◌*◌, ◌%◌, eqb, ltb, length, get_or, drop, replicate}
-use Rattle.std.proofs.Math.Option.{Option, none, some}
+use Rattle.ir.specs.declared.refusal.Refusal.{Refusal}
+use Rattle.std.specs.Prelude.{Bool, true, false, cond, not, ◌&&◌, ◌||◌, List, [], ◌∷◌, ◌++◌, ◌≡◌, ℕ, zero, suc, ◌+◌, ◌*◌, ◌%◌, eqb, ltb, length, get_or, drop, replicate, Option, None, Some, Result}
 use Rattle.laws.specs.Folds.{lowest, or_else}
 use Rattle.laws.specs.Maps.{upd}
 use Rattle.laws.specs.Options.{at}
 use Rattle.ir.specs.declared.frame.Shape.{Shape}
-use Rattle.ir.specs.declared.refusal.Outcome.{Outcome}
 use Rattle.ir.specs.Words.{main_of, offset_of}
 use Rattle.ir.specs.Shape.{over_shape}
 use Rattle.ir.specs.Refusals.{Row, row, row_at, first, gives, said_of_outcome}
@@ -58,11 +57,11 @@ cell_ok s x y =
 module _ (tags : List Form) (kinds : List Kind) (c : BlobCounts) (s : Shape) where
   -- an operand by its kind, for a result that is extension or not: a base result takes base slots and base constants
   abbrev pub kind_ok : Filled → Bool → Option Kind → ℕ → Bool
-  kind_ok f wide none k = false
-  kind_ok f wide (some base_slot) k = filled_in c f false k
-  kind_ok f wide (some ext_slot) k = wide && filled_in c f true k
-  kind_ok f wide (some (of t)) k = cond (ext_table t) wide true && ltb k (size_of c s t)
-  kind_ok f wide (some the_offset) k = wide && eqb k 0
+  kind_ok f wide None k = false
+  kind_ok f wide (Some base_slot) k = filled_in c f false k
+  kind_ok f wide (Some ext_slot) k = wide && filled_in c f true k
+  kind_ok f wide (Some (of t)) k = cond (ext_table t) wide true && ltb k (size_of c s t)
+  kind_ok f wide (Some the_offset) k = wide && eqb k 0
 
   -- an operand word
   unfoldable pub operand_ok : Filled → Bool → ℕ → Bool
@@ -70,13 +69,13 @@ module _ (tags : List Form) (kinds : List Kind) (c : BlobCounts) (s : Shape) whe
 
   -- a node by what its tag says
   abbrev pub form_ok : Filled → Option Form → Instr → Bool
-  form_ok f none w = false
-  form_ok f (some (entry t)) w = ltb w.a (size_of c s t) && eqb w.b 0 && slot_of_class c (ext_table t) w.res
-  form_ok f (some cell) w = cell_ok s w.a w.b && slot_of_class c (not (main_of w.b)) w.res
-  form_ok f (some offset) w = eqb w.a 0 && eqb w.b 0 && slot_of_class c true w.res
-  form_ok f (some (binary o)) w = operand_ok f (is_ext w.res) w.a && operand_ok f (is_ext w.res) w.b && slot_in c w.res
-  form_ok f (some negation) w = operand_ok f (is_ext w.res) w.a && eqb w.b 0 && slot_in c w.res
-  form_ok f (some embedding) w = operand_ok f true w.a && eqb w.b 0 && slot_of_class c true w.res
+  form_ok f None w = false
+  form_ok f (Some (entry t)) w = ltb w.a (size_of c s t) && eqb w.b 0 && slot_of_class c (ext_table t) w.res
+  form_ok f (Some cell) w = cell_ok s w.a w.b && slot_of_class c (not (main_of w.b)) w.res
+  form_ok f (Some offset) w = eqb w.a 0 && eqb w.b 0 && slot_of_class c true w.res
+  form_ok f (Some (binary o)) w = operand_ok f (is_ext w.res) w.a && operand_ok f (is_ext w.res) w.b && slot_in c w.res
+  form_ok f (Some negation) w = operand_ok f (is_ext w.res) w.a && eqb w.b 0 && slot_in c w.res
+  form_ok f (Some embedding) w = operand_ok f true w.a && eqb w.b 0 && slot_of_class c true w.res
 
   -- a node, where f was filled before it
   unfoldable pub node_ok : Filled → Instr → Bool
@@ -123,7 +122,7 @@ abbrev pub cleared : ℕ → List ℕ → List ℕ
 cleared n l = replicate n 0 ++ drop n l
 
 -- the promise: what is said, and the bytes, of which the slots' are 0 once 2 and 1 have passed
-pub record CheckAnswer (b : Blob) (s : Shape) (r : Outcome) (marks marks' : List ℕ) : Type 0 where
+pub record CheckAnswer (b : Blob) (s : Shape) (r : Result (Unit {0}) Refusal) (marks marks' : List ℕ) : Type 0 where
   pub said : said_of_outcome r ≡ first (check_rows b s (length marks)) (gives [])
   pub marks_end :
       marks' ≡ cond (over_shape s || short_check b.counts (length b.nodes) (length b.roots) (length marks)) marks

@@ -1,16 +1,13 @@
 -- What a builder call says, and how every call that makes a node ends, over any lent words.
 -- Assumes nothing.
-use Rattle.std.specs.Prelude.{Bool, cond, ◌||◌, List, [], ◌∷◌, ◌++◌, ◌≡◌, ℕ, ◌/◌, ltb, length}
+use Rattle.std.specs.Prelude.{Result, Ok, Err, Bool, cond, ◌||◌, List, [], ◌∷◌, ◌++◌, ◌≡◌, ℕ, ◌/◌, ltb, length}
 use Rattle.laws.specs.Options.{missing}
-use Rattle.ir.specs.declared.refusal.Refusal.TheVariants.{NodesFull}
+use Rattle.ir.specs.declared.refusal.Refusal.{Refusal}
 use Rattle.ir.specs.Refusals.{Said, Row, row, first, any_holds, gives, said_of, found_at}
 use Rattle.ir.specs.Words.{Node}
-use Rattle.builder.specs.declared.ir_builder.Answer.{Answer}
-use Rattle.builder.specs.declared.ir_builder.Answer.TheVariants.{Made, Refused}
 use Rattle.builder.specs.declared.ir_builder.Expr.{Expr}
 use Rattle.builder.specs.declared.ir_builder.IrBuilder.{IrBuilder}
-use Rattle.node_table.specs.declared.table.Put.{Put}
-use Rattle.node_table.specs.declared.table.Put.TheVariants.{At, Full}
+use Rattle.builder.specs.declared.ir_builder.Made.{Made}
 use Rattle.node_table.specs.Hashing.{Start}
 use Rattle.node_table.specs.Table.{Table, Pushed, push}
 use Rattle.node_table.specs.Tests.{no_node}
@@ -18,23 +15,18 @@ use Rattle.node_table.specs.Tests.{no_node}
 -- ---- the code's answers
 
 -- the handle, or the refusal's number
-abbrev pub said_of_answer : Answer → Said
-said_of_answer (Made e b) = gives (e.id ∷ e.dim ∷ [])
-said_of_answer (Refused r) = said_of r
+abbrev pub said_of_answer : Result Made Refusal → Said
+said_of_answer (Ok m) = gives (m.expr.id ∷ m.expr.dim ∷ [])
+said_of_answer (Err r) = said_of r
 
 -- the builder after a call: as before where it refuses
-abbrev pub builder_after : IrBuilder → Answer → IrBuilder
-builder_after b (Made e a) = a
-builder_after b (Refused r) = b
+abbrev pub builder_after : IrBuilder → Result Made Refusal → IrBuilder
+builder_after b (Ok m) = m.builder
+builder_after b (Err r) = b
 
 -- a builder with another count of nodes
 abbrev pub with_nodes : IrBuilder → ℕ → IrBuilder
 with_nodes b n = record { nodes = n; bases = b.bases; exts = b.exts; roots = b.roots }
-
--- a push's answer as a call's
-abbrev pub answer_to_put : Put → IrBuilder → ℕ → Answer
-answer_to_put (At id count) b d = Made (record { id = id; dim = d }) (with_nodes b count)
-answer_to_put Full b d = Refused NodesFull
 
 -- ---- the tests
 
@@ -71,7 +63,7 @@ made start rows t w =
     }
 
 -- the promise: the answer, the counts and each lent word are the outcome's
-pub record Gives (o : Built) (b : IrBuilder) (r : Answer) (ns ps : List ℕ) : Type 0 where
+pub record Gives (o : Built) (b : IrBuilder) (r : Result Made Refusal) (ns ps : List ℕ) : Type 0 where
   pub said : said_of_answer r ≡ o.said
   pub builder : builder_after b r ≡ with_nodes b o.after.count
   pub nodes : ns ≡ o.after.nodes

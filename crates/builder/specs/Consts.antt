@@ -1,12 +1,14 @@
 -- Constants by value, base and extension alike, and the fresh builder, over any lent words.
 -- Assumes nothing.
-use Rattle.std.specs.Prelude.{Bool, cond, ◌||◌, List, [], ◌∷◌, ◌++◌, ◌≡◌, ℕ, ◌+◌, ◌/◌, min, eqb, leb, ltb, length}
+use Rattle.std.specs.Prelude.{Result, Ok, Err, Bool, cond, ◌||◌, List, [], ◌∷◌, ◌++◌, ◌≡◌, ℕ, ◌+◌, ◌/◌, min, eqb, leb, ltb, length}
 use Rattle.laws.specs.Options.{missing}
 use Rattle.ir.specs.Program.{most}
-use Rattle.ir.specs.Refusals.{Said, Row, row, first, any_holds, gives, found_at}
+use Rattle.ir.specs.Refusals.{Said, Row, row, first, any_holds, gives, said_of, found_at}
 use Rattle.ir.specs.Words.{const_base, const_ext}
-use Rattle.builder.specs.declared.ir_builder.Answer.{Answer}
+use Rattle.ir.specs.declared.refusal.Refusal.{Refusal}
 use Rattle.builder.specs.declared.ir_builder.IrBuilder.{IrBuilder}
+use Rattle.builder.specs.declared.ir_builder.Kept.{Kept}
+use Rattle.builder.specs.declared.ir_builder.Made.{Made}
 use Rattle.node_table.specs.Words.{node}
 use Rattle.node_table.specs.Hashing.{Start}
 use Rattle.node_table.specs.Table.{Table, table, room}
@@ -59,9 +61,35 @@ abbrev pub with_exts : IrBuilder → ℕ → ℕ → IrBuilder
 with_exts b n m = record { nodes = n; bases = b.bases; exts = m; roots = b.roots }
 
 -- the promise: the answer, the counts and each lent word are the outcome's
-pub record Interns (counts : IrBuilder → ℕ → ℕ → IrBuilder) (o : Interned) (b : IrBuilder) (r : Answer) (ns ps cs : List ℕ) : Type 0 where
+pub record Interns (counts : IrBuilder → ℕ → ℕ → IrBuilder) (o : Interned) (b : IrBuilder) (r : Result Made Refusal) (ns ps cs : List ℕ) : Type 0 where
   pub said : said_of_answer r ≡ o.said
   pub builder : builder_after b r ≡ counts b o.after.count o.count
+  pub nodes : ns ≡ o.after.nodes
+  pub places : ps ≡ o.after.places
+  pub consts : cs ≡ o.consts
+
+-- ---- a constant of either class, by the counts of nodes and of constants alone
+
+-- the node's handle, or the refusal's number
+abbrev pub said_of_kept : ℕ → Result Kept Refusal → Said
+said_of_kept dim (Ok k) = gives (k.placed.id ∷ dim ∷ [])
+said_of_kept dim (Err r) = said_of r
+
+-- how many nodes there are after the call, of n before
+abbrev pub nodes_kept : ℕ → Result Kept Refusal → ℕ
+nodes_kept n (Ok k) = k.placed.count
+nodes_kept n (Err r) = n
+
+-- how many constants there are after it, of m before
+abbrev pub consts_kept : ℕ → Result Kept Refusal → ℕ
+consts_kept m (Ok k) = k.constants
+consts_kept m (Err r) = m
+
+-- the promise: the answer, the counts and each lent word are the outcome's
+pub record Keeps (o : Interned) (dim n m : ℕ) (r : Result Kept Refusal) (ns ps cs : List ℕ) : Type 0 where
+  pub said : said_of_kept dim r ≡ o.said
+  pub nodes_count : nodes_kept n r ≡ o.after.count
+  pub consts_count : consts_kept m r ≡ o.count
   pub nodes : ns ≡ o.after.nodes
   pub places : ps ≡ o.after.places
   pub consts : cs ≡ o.consts

@@ -1,10 +1,9 @@
 -- The roots, and what is handed on at the end, over any lent words.
 -- Assumes nothing.
-use Rattle.std.specs.Prelude.{cond, ◌||◌, List, [], ◌∷◌, ◌≡◌, ℕ, zero, suc, ◌+◌, ◌-◌, ◌/◌, max, leb, ltb, length, set}
+use Rattle.std.specs.Prelude.{Result, Ok, Err, cond, ◌||◌, List, [], ◌∷◌, ◌≡◌, ℕ, zero, suc, ◌+◌, ◌-◌, ◌/◌, max, leb, ltb, length, set}
 use Rattle.ir.specs.declared.program.Counts.{Counts}
 use Rattle.ir.specs.Refusals.{Said, Row, row, first, any_holds, gives, said_of}
-use Rattle.builder.specs.declared.ir_builder.Emitted.{Emitted}
-use Rattle.builder.specs.declared.ir_builder.Emitted.TheVariants.{Rooted, Refused}
+use Rattle.ir.specs.declared.refusal.Refusal.{Refusal}
 use Rattle.builder.specs.declared.ir_builder.Expr.{Expr}
 use Rattle.builder.specs.declared.ir_builder.IrBuilder.{IrBuilder}
 use Rattle.builder.specs.Answers.{stranger_b}
@@ -17,14 +16,14 @@ cleared_from l from (suc d) = set (cleared_from l from d) (from + d) 0
 -- ---- emit
 
 -- on 0 nothing but the number
-abbrev pub said_of_emitted : Emitted → Said
-said_of_emitted (Rooted b) = gives []
-said_of_emitted (Refused r) = said_of r
+abbrev pub said_of_emitted : Result IrBuilder Refusal → Said
+said_of_emitted (Ok b) = gives []
+said_of_emitted (Err r) = said_of r
 
 -- the builder after it: as before where it refuses
-abbrev pub builder_emitted : IrBuilder → Emitted → IrBuilder
-builder_emitted b (Rooted a) = a
-builder_emitted b (Refused r) = b
+abbrev pub builder_emitted : IrBuilder → Result IrBuilder Refusal → IrBuilder
+builder_emitted b (Ok a) = a
+builder_emitted b (Err r) = b
 
 -- a builder with another count of roots
 abbrev pub with_roots : IrBuilder → ℕ → IrBuilder
@@ -52,7 +51,7 @@ emit_of nodes n rs k at e =
     }
 
 -- the promise: the answer, the count and each lent root are the outcome's
-pub record EmitGives (o : Rooting) (b : IrBuilder) (r : Emitted) (rs : List ℕ) : Type 0 where
+pub record EmitGives (o : Rooting) (b : IrBuilder) (r : Result IrBuilder Refusal) (rs : List ℕ) : Type 0 where
   pub said : said_of_emitted r ≡ o.said
   pub builder : builder_emitted b r ≡ with_roots b o.count
   pub roots : rs ≡ o.roots

@@ -2,4 +2,3 @@
 #![tactic(auto)]
 
 pub mod ir_builder;
-pub mod roots;

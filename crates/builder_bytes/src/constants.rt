@@ -3,15 +3,46 @@
 ghost use Rattle.node_table.specs.Hashing.{start_of};
 ghost use Rattle.builder.specs.Consts.{const_of, const_ext_of, with_bases, with_exts, empty, new_of};
 ghost use Rattle.byte_words.specs.Rooms.{lent, held};
-ghost use Rattle.builder_bytes.specs.Promises.{held_table, InternsBytes};
+ghost use Rattle.builder_bytes.specs.Promises.{held_table, InternsBytes, OnWords};
 
-use builder::ir_builder::{Answer, IrBuilder};
+use builder::ir_builder::{IrBuilder, Made};
 use builder_call::answers::is_made;
-use byte_words::rooms::{pack_front32, pack_front64, short_rooms, short_wide};
-use byte_words::words::{unpack32, unpack64};
+use byte_words::rooms::{is_tight, pack_front, short_rooms};
+use byte_words::words::unpack;
 use extension::extensions_goldilocks::Ext;
 use ir::refusal::Refusal;
 
+// A call on the words that three lent tables hold.
+fn on_words<F: FnOnce(&mut [u32], &mut [u32], &mut [u64]) -> Result<Made, Refusal>>(
+    nodes: &mut [u8],
+    places: &mut [u8],
+    consts: &mut [u8],
+    nw: &mut [u32],
+    pw: &mut [u32],
+    cw: &mut [u64],
+    call: F,
+) -> Result<Made, Refusal>
+    requires { F.IsAlwaysCallable call }
+    ensures { OnWords (F.post call) (lent nodes.old nw.old) (lent places.old pw.old) (lent consts.old cw.old) result (lent nodes.new nw.new) (lent places.new pw.new) (lent consts.new cw.new) }
+{
+    if short_rooms(&nodes[..], &nw[..], &places[..], &pw[..]) || is_tight(&consts[..], &cw[..]) {
+        return Err(Refusal::ShortMemory);
+    }
+    unpack(&nodes[..], &mut nw[..]);
+    unpack(&places[..], &mut pw[..]);
+    unpack(&consts[..], &mut cw[..]);
+    let n = nodes.len() / 4;
+    let p = places.len() / 4;
+    let k = consts.len() / 8;
+    let r = call(&mut nw[..n], &mut pw[..p], &mut cw[..k]);
+    let done = is_made(r);
+    pack_front(done, &nw[..], nodes);
+    pack_front(done, &pw[..], places);
+    pack_front(done, &cw[..], consts);
+    r
+}
+
+// Tables and working rooms one by one, as C lends them and as a refusal leaves them.
 pub fn const_base_bytes(
     builder: IrBuilder,
     nodes: &mut [u8],
@@ -21,27 +52,18 @@ pub fn const_base_bytes(
     pw: &mut [u32],
     cw: &mut [u64],
     v: u64,
-) -> Answer
+) -> Result<Made, Refusal>
     ensures { InternsBytes with_bases (const_of start_of (held_table (lent nodes.old nw.old) (lent places.old pw.old) builder.nodes) (held 8 (lent bases.old cw.old)) builder.bases v) builder (lent nodes.old nw.old) (lent places.old pw.old) (lent bases.old cw.old) result (lent nodes.new nw.new) (lent places.new pw.new) (lent bases.new cw.new) }
 {
-    if short_rooms(nodes.len(), nw.len(), places.len(), pw.len()) {
-        return Answer::Refused(Refusal::ShortMemory);
-    }
-    if short_wide(bases.len(), cw.len()) {
-        return Answer::Refused(Refusal::ShortMemory);
-    }
-    unpack32(&nodes[..], &mut nw[..]);
-    unpack32(&places[..], &mut pw[..]);
-    unpack64(&bases[..], &mut cw[..]);
-    let n = nodes.len() / 4;
-    let p = places.len() / 4;
-    let k = bases.len() / 8;
-    let r = builder.const_base(&mut nw[..n], &mut pw[..p], &mut cw[..k], v);
-    let done = is_made(r);
-    pack_front32(done, &nw[..], nodes);
-    pack_front32(done, &pw[..], places);
-    pack_front64(done, &cw[..], bases);
-    r
+    on_words(
+        nodes,
+        places,
+        bases,
+        nw,
+        pw,
+        cw,
+        |n, p, b| builder.const_base(n, p, b, v),
+    )
 }
 
 pub fn const_ext_bytes(
@@ -53,27 +75,18 @@ pub fn const_ext_bytes(
     pw: &mut [u32],
     cw: &mut [u64],
     v: Ext,
-) -> Answer
+) -> Result<Made, Refusal>
     ensures { InternsBytes with_exts (const_ext_of start_of (held_table (lent nodes.old nw.old) (lent places.old pw.old) builder.nodes) (held 8 (lent exts.old cw.old)) builder.exts v.limbs) builder (lent nodes.old nw.old) (lent places.old pw.old) (lent exts.old cw.old) result (lent nodes.new nw.new) (lent places.new pw.new) (lent exts.new cw.new) }
 {
-    if short_rooms(nodes.len(), nw.len(), places.len(), pw.len()) {
-        return Answer::Refused(Refusal::ShortMemory);
-    }
-    if short_wide(exts.len(), cw.len()) {
-        return Answer::Refused(Refusal::ShortMemory);
-    }
-    unpack32(&nodes[..], &mut nw[..]);
-    unpack32(&places[..], &mut pw[..]);
-    unpack64(&exts[..], &mut cw[..]);
-    let n = nodes.len() / 4;
-    let p = places.len() / 4;
-    let k = exts.len() / 8;
-    let r = builder.const_ext(&mut nw[..n], &mut pw[..p], &mut cw[..k], v);
-    let done = is_made(r);
-    pack_front32(done, &nw[..], nodes);
-    pack_front32(done, &pw[..], places);
-    pack_front64(done, &cw[..], exts);
-    r
+    on_words(
+        nodes,
+        places,
+        exts,
+        nw,
+        pw,
+        cw,
+        |n, p, x| builder.const_ext(n, p, x, v),
+    )
 }
 
 pub fn new_bytes(
@@ -83,25 +96,16 @@ pub fn new_bytes(
     nw: &mut [u32],
     pw: &mut [u32],
     cw: &mut [u64],
-) -> Answer
+) -> Result<Made, Refusal>
     ensures { InternsBytes with_bases (new_of start_of (held 4 (lent nodes.old nw.old)) (held 4 (lent places.old pw.old)) (held 8 (lent bases.old cw.old))) empty (lent nodes.old nw.old) (lent places.old pw.old) (lent bases.old cw.old) result (lent nodes.new nw.new) (lent places.new pw.new) (lent bases.new cw.new) }
 {
-    if short_rooms(nodes.len(), nw.len(), places.len(), pw.len()) {
-        return Answer::Refused(Refusal::ShortMemory);
-    }
-    if short_wide(bases.len(), cw.len()) {
-        return Answer::Refused(Refusal::ShortMemory);
-    }
-    unpack32(&nodes[..], &mut nw[..]);
-    unpack32(&places[..], &mut pw[..]);
-    unpack64(&bases[..], &mut cw[..]);
-    let n = nodes.len() / 4;
-    let p = places.len() / 4;
-    let k = bases.len() / 8;
-    let r = IrBuilder::new(&mut nw[..n], &mut pw[..p], &mut cw[..k]);
-    let done = is_made(r);
-    pack_front32(done, &nw[..], nodes);
-    pack_front32(done, &pw[..], places);
-    pack_front64(done, &cw[..], bases);
-    r
+    on_words(
+        nodes,
+        places,
+        bases,
+        nw,
+        pw,
+        cw,
+        |n, p, b| IrBuilder::new(n, p, b),
+    )
 }

@@ -4,12 +4,11 @@ ghost use Rattle.builder.specs.Roots.{emit_of};
 ghost use Rattle.byte_words.specs.Rooms.{lent, held};
 ghost use Rattle.builder_bytes.specs.Promises.{EmitBytes, GapsBytes};
 
-use builder::ir_builder::{Emitted, Expr, IrBuilder};
+use builder::ir_builder::{Expr, IrBuilder};
 use builder_call::answers::is_rooted;
-use byte_words::rooms::{pack_front32, pack_front64, short_mixed, short_rooms};
-use byte_words::words::{unpack32, unpack64};
-use gaps::answers::is_listed;
-use gaps::gaps::{Gaps, gap_report};
+use byte_words::rooms::{pack_front, short_rooms};
+use byte_words::words::unpack;
+use gaps::gaps::gap_report;
 use ir::refusal::Refusal;
 
 // The rooms nw and tw take the words of nodes and roots.
@@ -21,19 +20,19 @@ pub fn emit_bytes(
     tw: &mut [u32],
     c: usize,
     e: Expr,
-) -> Emitted
+) -> Result<IrBuilder, Refusal>
     ensures { EmitBytes (emit_of (held 4 (lent nodes.now nw.old)) builder.nodes (held 4 (lent roots.old tw.old)) builder.roots c e) builder (lent nodes.now nw.old) (lent roots.old tw.old) result (lent nodes.now nw.new) (lent roots.new tw.new) }
 {
-    if short_rooms(nodes.len(), nw.len(), roots.len(), tw.len()) {
-        return Emitted::Refused(Refusal::ShortMemory);
+    if short_rooms(nodes, &nw[..], &roots[..], &tw[..]) {
+        return Err(Refusal::ShortMemory);
     }
-    unpack32(nodes, &mut nw[..]);
-    unpack32(&roots[..], &mut tw[..]);
+    unpack(nodes, &mut nw[..]);
+    unpack(&roots[..], &mut tw[..]);
     let n = nodes.len() / 4;
     let k = roots.len() / 4;
     let r = builder.emit(&nw[..n], &mut tw[..k], c, e);
     let done = is_rooted(r);
-    pack_front32(done, &tw[..], roots);
+    pack_front(done, &tw[..], roots);
     r
 }
 
@@ -44,18 +43,17 @@ pub fn gap_report_bytes(
     out: &mut [u8],
     tw: &mut [u32],
     ow: &mut [u64],
-) -> Gaps
+) -> Result<usize, Refusal>
     ensures { GapsBytes builder.roots (lent roots.now tw.old) (lent out.old ow.old) result (lent roots.now tw.new) (lent out.new ow.new) }
 {
-    if short_mixed(roots.len(), tw.len(), out.len(), ow.len()) {
-        return Gaps::Refused(Refusal::ShortMemory);
+    if short_rooms(roots, &tw[..], &out[..], &ow[..]) {
+        return Err(Refusal::ShortMemory);
     }
-    unpack32(roots, &mut tw[..]);
-    unpack64(&out[..], &mut ow[..]);
+    unpack(roots, &mut tw[..]);
+    unpack(&out[..], &mut ow[..]);
     let k = roots.len() / 4;
     let m = out.len() / 8;
     let r = gap_report(builder, &tw[..k], &mut ow[..m]);
-    let done = is_listed(r);
-    pack_front64(done, &ow[..], out);
+    pack_front(r.is_ok(), &ow[..], out);
     r
 }

@@ -3,22 +3,19 @@ ghost use Rattle.std.specs.Prelude.{◌≡◌, eqb};
 ghost use Rattle.builder.specs.Answers.{said_of_answer};
 ghost use Rattle.builder.specs.Roots.{said_of_emitted};
 
-use builder::ir_builder::{Answer, Emitted};
+use builder::ir_builder::{IrBuilder, Made};
+use ir::refusal::Refusal;
 
-pub fn is_made(r: Answer) -> bool
-    ensures { result ≡ eqb (said_of_answer r).number 0 }
+#[tactic(auto, using(builder::proofs::AnswerLaws::made_said))]
+pub fn is_made(made: Result<Made, Refusal>) -> bool
+    ensures { result ≡ eqb (said_of_answer made).number 0 }
 {
-    match r {
-        Answer::Made { expr, builder } => true,
-        Answer::Refused(why) => false,
-    }
+    made.is_ok()
 }
 
-pub fn is_rooted(r: Emitted) -> bool
-    ensures { result ≡ eqb (said_of_emitted r).number 0 }
+#[tactic(auto, using(builder::proofs::AnswerLaws::rooted_said))]
+pub fn is_rooted(rooted: Result<IrBuilder, Refusal>) -> bool
+    ensures { result ≡ eqb (said_of_emitted rooted).number 0 }
 {
-    match r {
-        Emitted::Rooted(builder) => true,
-        Emitted::Refused(why) => false,
-    }
+    rooted.is_ok()
 }

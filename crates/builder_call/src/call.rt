@@ -4,7 +4,8 @@ ghost use Rattle.node_table.specs.Table.{table};
 ghost use Rattle.builder.specs.Answers.{Gives};
 ghost use Rattle.builder_call.specs.CallData.{call_of};
 
-use builder::ir_builder::{Answer, Expr, IrBuilder};
+use builder::ir_builder::{Expr, IrBuilder, Made};
+use ir::refusal::Refusal;
 
 // A call with its arguments.
 #[derive(Clone, Copy)]
@@ -21,7 +22,12 @@ pub enum Call {
     Embed { a: Expr },
 }
 
-pub fn perform(builder: IrBuilder, c: Call, nodes: &mut [u32], places: &mut [u32]) -> Answer
+pub fn perform(
+    builder: IrBuilder,
+    c: Call,
+    nodes: &mut [u32],
+    places: &mut [u32],
+) -> Result<Made, Refusal>
     ensures { Gives (call_of start_of c (table nodes.old places.old builder.nodes)) builder result nodes.new places.new }
 {
     match c {

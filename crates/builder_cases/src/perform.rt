@@ -1,76 +1,83 @@
 // One call of a history: what it takes from the line, and what it comes to.
-use builder::ir_builder::{Answer, Emitted, Expr, IrBuilder};
+use super::tables::{ROOTS, Tables};
+use builder::ir_builder::{Expr, IrBuilder, Made};
 use builder_call::call::{Call, perform};
+use extension::extensions_goldilocks::Ext;
+use gaps::gaps::gap_report;
 use ir::refusal::Refusal;
-use sample::answer::refusal_number;
-use sample::line::{count_at, limbs_at, number_at, plus};
+use sample::line::Line;
+use sample::word::Word;
 
-// What a call has come to: the builder after it, its answer, and what it gives.
+// A call's number, as the sample's line has it, and its arguments.
 #[derive(Clone, Copy)]
-pub struct Outcome {
-    pub builder: IrBuilder,
-    pub answer: u64,
-    pub gives: u64,
+pub struct Request {
+    call: u64,
+    first: u64,
+    second: u64,
+    third: u64,
 }
 
-pub fn refused(before: IrBuilder, why: Refusal) -> Outcome {
-    Outcome {
-        builder: before,
-        answer: refusal_number(why),
-        gives: 0,
+impl Request {
+    pub fn read(line: &mut Line) -> Request {
+        Request {
+            call: line.number(),
+            first: line.number(),
+            second: line.number(),
+            third: line.number(),
+        }
     }
+}
+
+// What a call gives, and the builder after it.
+#[derive(Clone, Copy)]
+pub struct Given {
+    pub builder: IrBuilder,
+    pub number: u64,
 }
 
 // A handle is one number: its id, and 2^32 times its dim.
 fn coded(e: Expr) -> u64 {
-    e.id as u64 + 0x1_0000_0000 * (e.dim as u64)
+    u64::from(e.id) + 0x1_0000_0000 * u64::from(e.dim)
 }
 
-fn handle_at(line: &[u64], at: usize) -> Expr {
-    let word = number_at(line, at);
+fn handle(word: u64) -> Expr {
     Expr {
         id: (word % 0x1_0000_0000) as u32,
         dim: (word / 0x1_0000_0000) as u32,
     }
 }
 
-fn made(before: IrBuilder, a: Answer) -> Outcome {
-    match a {
-        Answer::Made { expr, builder } => Outcome {
-            builder,
-            answer: 0,
-            gives: coded(expr),
-        },
-        Answer::Refused(why) => refused(before, why),
-    }
+fn made(answer: Result<Made, Refusal>) -> Result<Given, Refusal> {
+    let Made { expr, builder } = answer?;
+    Ok(Given {
+        builder,
+        number: coded(expr),
+    })
 }
 
-fn rooted(before: IrBuilder, e: Emitted) -> Outcome {
-    match e {
-        Emitted::Rooted(builder) => Outcome {
-            builder,
-            answer: 0,
-            gives: 0,
-        },
-        Emitted::Refused(why) => refused(before, why),
-    }
+fn rooted(answer: Result<IrBuilder, Refusal>) -> Result<Given, Refusal> {
+    Ok(Given {
+        builder: answer?,
+        number: 0,
+    })
 }
 
-// A number whose bits are those of a signed one.
-fn signed(v: u64) -> i64 {
-    if v < 0x8000_0000_0000_0000 {
-        return v as i64;
-    }
-    !((u64::MAX - v) as i64)
+fn report(asked: Request, b: IrBuilder, roots: &[u32]) -> Result<Given, Refusal> {
+    let mut out = [u64::KEPT; ROOTS];
+    let lent = ROOTS.min(asked.first as usize);
+    let count = gap_report(b, roots, &mut out[..lent])?;
+    Ok(Given {
+        builder: b,
+        number: count as u64,
+    })
 }
 
-// A leaf but for constants, by its number in the line.
-fn leaf(line: &[u64], at: usize) -> Call {
-    let from = plus(at, 1);
-    let offset = (number_at(line, from) % 256) as u8;
-    let idx = count_at(line, from);
-    let col = count_at(line, plus(at, 2));
-    match number_at(line, at) {
+// A leaf but for constants.
+fn leaf(asked: Request) -> Call {
+    let offset = (asked.first % 256) as u8;
+    let idx = asked.first as usize;
+    let col = asked.second as usize;
+    match asked.call {
         1 => Call::Main { offset, col },
         2 => Call::Aux { offset, col },
         3 => Call::Challenge { idx },
@@ -79,34 +86,22 @@ fn leaf(line: &[u64], at: usize) -> Call {
     }
 }
 
-fn constant(
-    line: &[u64],
-    at: usize,
-    b: IrBuilder,
-    nodes: &mut [u32],
-    places: &mut [u32],
-    bases: &mut [u64],
-    exts: &mut [u64],
-) -> Answer {
-    let from = plus(at, 1);
-    let v = number_at(line, from);
-    match number_at(line, at) {
-        6 => b.const_base(&mut nodes[..], &mut places[..], &mut bases[..], v),
-        7 => b.const_signed(&mut nodes[..], &mut places[..], &mut bases[..], signed(v)),
-        8 => b.const_ext(
-            &mut nodes[..],
-            &mut places[..],
-            &mut exts[..],
-            limbs_at(line, from),
-        ),
-        _ => b.one(&mut nodes[..], &mut places[..], &mut bases[..]),
+fn constant(asked: Request, b: IrBuilder, t: &mut Tables) -> Result<Made, Refusal> {
+    match asked.call {
+        6 => b.const_base(t.nodes, t.places, t.bases, asked.first),
+        7 => b.const_signed(t.nodes, t.places, t.bases, asked.first.cast_signed()),
+        8 => {
+            let limbs = [asked.first, asked.second, asked.third];
+            b.const_ext(t.nodes, t.places, t.exts, Ext { limbs })
+        }
+        _ => b.one(t.nodes, t.places, t.bases),
     }
 }
 
-fn operation(line: &[u64], at: usize) -> Call {
-    let a = handle_at(line, plus(at, 1));
-    let b = handle_at(line, plus(at, 2));
-    match number_at(line, at) {
+fn operation(asked: Request) -> Call {
+    let a = handle(asked.first);
+    let b = handle(asked.second);
+    match asked.call {
         10 => Call::Add { a, b },
         11 => Call::Sub { a, b },
         12 => Call::Mul { a, b },
@@ -115,63 +110,26 @@ fn operation(line: &[u64], at: usize) -> Call {
     }
 }
 
-// A call that makes a node: 0 is a fresh builder, 1 to 5 are leaves, 6 to 9 constants, and from 10 on operations.
-fn make(
-    line: &[u64],
-    at: usize,
+// Both tables are lent for writing: of two fields behind one reference, Rattle does not yet lend one for reading beside
+// the other for writing.
+fn emit(
+    asked: Request,
     b: IrBuilder,
     nodes: &mut [u32],
-    places: &mut [u32],
-    bases: &mut [u64],
-    exts: &mut [u64],
-) -> Answer {
-    let call = number_at(line, at);
-    if call == 0 {
-        return IrBuilder::new(&mut nodes[..], &mut places[..], &mut bases[..]);
-    }
-    if call < 6 {
-        return perform(b, leaf(line, at), &mut nodes[..], &mut places[..]);
-    }
-    if call < 10 {
-        return constant(
-            line,
-            at,
-            b,
-            &mut nodes[..],
-            &mut places[..],
-            &mut bases[..],
-            &mut exts[..],
-        );
-    }
-    perform(b, operation(line, at), &mut nodes[..], &mut places[..])
+    roots: &mut [u32],
+) -> Result<Given, Refusal> {
+    rooted(b.emit(nodes, roots, asked.first as usize, handle(asked.second)))
 }
 
-// The call of a builder that stands at a place.
-pub fn perform_at(
-    line: &[u64],
-    at: usize,
-    b: IrBuilder,
-    nodes: &mut [u32],
-    places: &mut [u32],
-    bases: &mut [u64],
-    exts: &mut [u64],
-    roots: &mut [u32],
-) -> Outcome {
-    if number_at(line, at) == 15 {
-        let e = handle_at(line, plus(at, 2));
-        let c = count_at(line, plus(at, 1));
-        return rooted(b, b.emit(nodes, &mut roots[..], c, e));
+// The numbers of the calls: 0 is a fresh builder, 1 to 5 are leaves, 6 to 9 constants, 15 emits, 16 reports the gaps, and
+// all others are operations.
+pub fn perform_asked(asked: Request, b: IrBuilder, t: &mut Tables) -> Result<Given, Refusal> {
+    match asked.call {
+        0 => made(IrBuilder::new(t.nodes, t.places, t.bases)),
+        1..=5 => made(perform(b, leaf(asked), t.nodes, t.places)),
+        6..=9 => made(constant(asked, b, t)),
+        15 => emit(asked, b, t.nodes, t.roots),
+        16 => report(asked, b, t.roots),
+        _ => made(perform(b, operation(asked), t.nodes, t.places)),
     }
-    made(
-        b,
-        make(
-            line,
-            at,
-            b,
-            &mut nodes[..],
-            &mut places[..],
-            &mut bases[..],
-            &mut exts[..],
-        ),
-    )
 }

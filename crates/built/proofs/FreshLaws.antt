@@ -28,7 +28,7 @@ use Rattle.built.specs.Memory.{Memory, fresh, base_at, base_room, room_of}
 use Rattle.built.specs.History.{StartsInside}
 use Rattle.built.proofs.NodeLaws.{Nodes}
 use Rattle.built.proofs.ConstantLaws.{Held, Shares, const_shares}
-use Rattle.built.proofs.RootLaws.{cleared_length}
+use Rattle.builder.proofs.RootLaws.{cleared_length}
 use Rattle.built.proofs.StepLaws.{base_writes, base_index, Step}
 
 cleared_at : (l : List ℕ) (d j : ℕ) → d ≤ length l → j < d → get_or (cleared_from l 0 d) j 0 ≡ 0

@@ -11,27 +11,13 @@ use lib.ListN.{length, set, take, replicate, length-set, replicate-append-replic
 use lib.Seq.{take-suc-set, take-set-lt, length-take-le}
 use borrow.Author.Tests.{lt-ltb, le-ltb}
 use Rattle.builder.specs.Roots.{cleared_from}
+use Rattle.builder.proofs.RootLaws.{cleared_length, cleared_take}
 use Rattle.built.specs.Draft.{rooted}
 
 -- the first k roots are the list's
 pub record Roots (rs : List ℕ) (k : ℕ) (l : List ℕ) : Type 0 where
   pub list : take k rs ≡ l
   pub few : k ≤ length rs
-
-pub cleared_length : (l : List ℕ) (k d : ℕ) → length (cleared_from l k d) ≡ length l
-unfolding cleared_from
-cleared_length l k zero = refl
-cleared_length l k (suc d) = length-set (cleared_from l k d) (k + d) 0 ∙ cleared_length l k d
-
-cleared_take : (l : List ℕ) (k d : ℕ) → k + d ≤ length l → take (k + d) (cleared_from l k d) ≡ take k l ++ replicate d 0
-unfolding cleared_from
-cleared_take l k zero h = let e : k + 0 ≡ k = omega arith in rw (e, append-nil)
-cleared_take l k (suc d) h =
-    let e : k + suc d ≡ suc (k + d) = omega arith in
-    let o : d + 1 ≡ suc d = omega arith in
-    rw e
-    (take-suc-set (cleared_from l k d) (k + d) 0 (omega (arith, cleared_length l k d)) ∙ ap (λ x. x ++ (0 ∷ [])) (cleared_take l k d (omega arith))
-    ∙ append_assoc (take k l) (replicate d 0) (0 ∷ []) ∙ ap (λ x. take k l ++ x) (replicate-append-replicate d 1 0 ∙ ap (λ n. replicate n 0) o))
 
 module _ (rs : List ℕ) (k c id : ℕ) (h : k ≤ length rs) (l : c < length rs) where
   rooted_words : take (max k (c + 1)) (set (cleared_from rs k (c - k)) c id) ≡ rooted (take k rs) c id

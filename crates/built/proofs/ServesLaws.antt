@@ -1,7 +1,7 @@
 -- A built program lowers, and its walk is the plain evaluator.
 -- Assumes nothing.
 use mathlib.Core.Bool.{false}
-use mathlib.Core.Option.{none}
+use Rattle.std.specs.Prelude.{None}
 use mathlib.Core.Path.{◌≡◌, refl}
 use Rattle.ir.specs.Program.{Program, too_many_nodes, short_program, ill_formed}
 use Rattle.evaluation.specs.Evaluation.{short_frame, short_memory}
@@ -10,7 +10,7 @@ use Rattle.lowered.proofs.Theorem.{lowering_is_faithful}
 use Rattle.built.specs.Serves.{Serves, BuiltProgramsServe}
 use Rattle.built.proofs.Theorems.{programs_are_well_formed}
 
-module _ (q : Program) (few : too_many_nodes q.counts ≡ false) (long : short_program q ≡ false) (formed : ill_formed q.counts q.nodes q.roots ≡ none) where
+module _ (q : Program) (few : too_many_nodes q.counts ≡ false) (long : short_program q ≡ false) (formed : ill_formed q.counts q.nodes q.roots ≡ None) where
   pub serving : Serves q
   unfolding lower_said short_memory short_frame
   serving =

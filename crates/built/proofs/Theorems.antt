@@ -2,7 +2,7 @@
 -- Assumes nothing.
 use mathlib.Core.Bool.{false, not}
 use mathlib.Core.List.{List, [], ◌∷◌}
-use mathlib.Core.Option.{none}
+use Rattle.std.specs.Prelude.{None}
 use mathlib.Core.Path.{◌≡◌, refl, sym, ap, ap₂, ◌∙◌, subst}
 use Prim.Native.Nat.{ℕ, ◌*◌, ◌<◌}
 use native.Mathlib.Nat.{mod-lt}
@@ -75,7 +75,7 @@ module _ (start : Start) (m : Memory) (d : Draft) (h : Holds start m d) where
     abbrev c : Counts
     c = (program_of m base).counts
 
-    pub is_formed : ill_formed c m.nodes m.roots ≡ none
+    pub is_formed : ill_formed c m.nodes m.roots ≡ None
     unfolding ill_formed
     is_formed =
         let n = nodes_many start _ d.nodes h.nodes in

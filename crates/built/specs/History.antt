@@ -1,7 +1,6 @@
 -- Histories of calls from a fresh builder, and what is proved of them. The proofs are in proofs/Theorems.antt and RoomLaws.antt.
 -- Assumes nothing.
-use Rattle.std.specs.Prelude.{Bool, true, false, ◌&&◌, List, [], ◌∷◌, ◌≡◌, ℕ, ◌<◌, ◌≤◌, eqb, ltb, length}
-use Rattle.std.proofs.Math.Option.{none}
+use Rattle.std.specs.Prelude.{Bool, true, false, ◌&&◌, List, [], ◌∷◌, ◌≡◌, ℕ, ◌<◌, ◌≤◌, eqb, ltb, length, None}
 use Rattle.ir.specs.Program.{Program, too_many_nodes, too_many_roots, short_program, ill_formed, checked}
 use Rattle.ir.specs.Refusals.{Said, gives}
 use Rattle.ir.specs.Words.{Node}
@@ -73,7 +72,7 @@ program_of m base = record { counts = finished m.builder base; nodes = m.nodes; 
 pub record WellMade (m : Memory) : Type 0 where
   pub few : (base : ℕ) → too_many_nodes (program_of m base).counts ≡ false
   pub long : (base : ℕ) → short_program (program_of m base) ≡ false
-  pub formed : (base : ℕ) → ill_formed (program_of m base).counts m.nodes m.roots ≡ none
+  pub formed : (base : ℕ) → ill_formed (program_of m base).counts m.nodes m.roots ≡ None
   -- so the program check lets it through
   pub passes : (base : ℕ) → too_many_roots (program_of m base).counts ≡ false → checked (program_of m base) ≡ gives []
 

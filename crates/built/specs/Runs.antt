@@ -1,10 +1,10 @@
 -- Runs of the code: calls one after another, each with the answer and the words that its contract promises. A word that a call is not
 -- lent stays. The proof is in proofs/RunLaws.antt.
 -- Assumes nothing.
-use Rattle.std.specs.Prelude.{List, [], ◌∷◌, ◌≡◌}
+use Rattle.std.specs.Prelude.{Result, List, [], ◌∷◌, ◌≡◌}
 use Rattle.ir.specs.Refusals.{Said, gives}
-use Rattle.builder.specs.declared.ir_builder.Answer.{Answer}
-use Rattle.builder.specs.declared.ir_builder.Emitted.{Emitted}
+use Rattle.ir.specs.declared.refusal.Refusal.{Refusal}
+use Rattle.builder.specs.declared.ir_builder.Made.{Made}
 use Rattle.builder.specs.declared.ir_builder.IrBuilder.{IrBuilder}
 use Rattle.node_table.specs.Hashing.{start_of}
 use Rattle.builder.specs.Answers.{Built, said_of_answer, builder_after, Gives}
@@ -19,7 +19,7 @@ use Rattle.built.specs.History.{replies, drafted}
 
 -- lent nodes and places
 pub record NodeRun (o : Built) (m : Memory) (s : Said) (n : Memory) : Type 0 where
-  pub answer : Answer
+  pub answer : Result Made Refusal
   pub says : s ≡ said_of_answer answer
   pub builder : n.builder ≡ builder_after m.builder answer
   pub promise : Gives o m.builder answer n.nodes n.places
@@ -29,7 +29,7 @@ pub record NodeRun (o : Built) (m : Memory) (s : Said) (n : Memory) : Type 0 whe
 
 -- lent the base constants besides; over a builder b, which for `new` is the empty one
 pub record BaseRun (o : Interned) (b : IrBuilder) (m : Memory) (s : Said) (n : Memory) : Type 0 where
-  pub answer : Answer
+  pub answer : Result Made Refusal
   pub says : s ≡ said_of_answer answer
   pub builder : n.builder ≡ builder_after b answer
   pub promise : Interns with_bases o b answer n.nodes n.places n.bases
@@ -38,7 +38,7 @@ pub record BaseRun (o : Interned) (b : IrBuilder) (m : Memory) (s : Said) (n : M
 
 -- lent the extension constants besides
 pub record ExtRun (o : Interned) (m : Memory) (s : Said) (n : Memory) : Type 0 where
-  pub answer : Answer
+  pub answer : Result Made Refusal
   pub says : s ≡ said_of_answer answer
   pub builder : n.builder ≡ builder_after m.builder answer
   pub promise : Interns with_exts o m.builder answer n.nodes n.places n.exts
@@ -47,7 +47,7 @@ pub record ExtRun (o : Interned) (m : Memory) (s : Said) (n : Memory) : Type 0 w
 
 -- lent the nodes to read, and the roots
 pub record RootRun (o : Rooting) (m : Memory) (s : Said) (n : Memory) : Type 0 where
-  pub answer : Emitted
+  pub answer : Result IrBuilder Refusal
   pub says : s ≡ said_of_emitted answer
   pub builder : n.builder ≡ builder_emitted m.builder answer
   pub promise : EmitGives o m.builder answer n.roots

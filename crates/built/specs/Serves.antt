@@ -1,16 +1,16 @@
 -- What a built program can be used for: it lowers, and its walk gives the plain evaluator's values. Of the refusals of `lower` and of
 -- `eval_program` those are left that do not hang on the builder. The proof is in proofs/ServesLaws.antt.
 -- Assumes nothing.
-use Rattle.std.specs.Prelude.{◌||◌, List, [], ◌∷◌, ◌≡◌, ℕ, ◌*◌, ltb, length}
+use Rattle.ir.specs.declared.refusal.Refusal.{Refusal}
+use Rattle.blob_rules.specs.declared.blob.BlobCounts.{BlobCounts}
+use Rattle.std.specs.Prelude.{◌||◌, List, [], ◌∷◌, ◌≡◌, ℕ, ◌*◌, ltb, length, Result, Ok}
 use Rattle.laws.specs.Folds.{lowest}
 use Rattle.ir.specs.declared.frame.Shape.{Shape}
-use Rattle.ir.specs.declared.refusal.Outcome.TheVariants.{Done}
 use Rattle.ir.specs.Program.{Program, too_many_roots}
 use Rattle.ir.specs.Refusals.{Row, row, row_at, first, gives}
 use Rattle.ir.specs.Shape.{over_shape}
 use Rattle.values.specs.Frame.{Lent, node_outside, frame_limits}
 use Rattle.evaluation.specs.Evaluation.{short_frame, short_evals, ext_root, lengths, prover_rows, ProverAnswer}
-use Rattle.lower_parts.specs.declared.parts.Lowering.{Lowering}
 use Rattle.lower_parts.specs.Answer.{Lists, Output, lowering, short_lists, short_output, counts_of, lower_said, LowerAnswer}
 use Rattle.lower_parts.specs.Lower.{blob_of}
 use Rattle.lowered.specs.Faithful.{with_constants, Faithful}
@@ -46,8 +46,8 @@ pub record Serves (q : Program) : Type 0 where
   -- where both answer 0, the check passes the blob, and its walk leaves the evaluator's words
   pub faithful :
       (s : Shape) (l : Lent) (base base₁ ext ext₁ room room₁ : List ℕ)
-      → ProverAnswer q.counts s q.nodes q.roots (with_constants q.bases q.exts l) Done base base₁ ext ext₁ room room₁
-      → (b b' : Lists) (o o' : Output) (a : Lowering) → LowerAnswer q b o a b' o' → Faithful q s l base base₁ ext ext₁ b o a o'
+      → ProverAnswer q.counts s q.nodes q.roots (with_constants q.bases q.exts l) (Ok tt) base base₁ ext ext₁ room room₁
+      → (b b' : Lists) (o o' : Output) (a : Result BlobCounts Refusal) → LowerAnswer q b o a b' o' → Faithful q s l base base₁ ext ext₁ b o a o'
 
 -- of any history, with any num_base
 pub record BuiltServes (start : Start) (m : Memory) (cs : List Call) : Type 0 where

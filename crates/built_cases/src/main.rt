@@ -2,11 +2,13 @@
 // past two gaps, with its program lowered.
 #![tactic(auto)]
 
-use builder::ir_builder::{Answer, Emitted, IrBuilder};
+use blob_rules::blob::TableRooms;
+use builder::ir_builder::{IrBuilder, Made};
+use host_answer::answer::coded_refusal;
+use ir::program::ProgramRef;
+use ir::refusal::Refusal;
 use lower::lower::lower;
-use lower_parts::parts::Lowering;
-use sample::answer::refusal_number;
-use sample::report::{say, say_number};
+use lower_parts::parts::Lists;
 use std::io;
 
 const NONE: IrBuilder = IrBuilder {
@@ -16,20 +18,19 @@ const NONE: IrBuilder = IrBuilder {
     roots: 0,
 };
 
-fn after(b: IrBuilder, a: Answer) -> IrBuilder {
+fn after(b: IrBuilder, a: Result<Made, Refusal>) -> IrBuilder {
     match a {
-        Answer::Made { expr, builder } => builder,
-        Answer::Refused(why) => b,
+        Ok(made) => made.builder,
+        Err(_) => b,
     }
 }
 
 // The node's id, or the refusal's number in words.
-fn say_answer(rt: &impl Print, a: Answer) -> io::Result<()> {
+fn say_answer(rt: &impl Print, a: Result<Made, Refusal>) -> io::Result<()> {
     match a {
-        Answer::Made { expr, builder } => say_number(rt, b" gives node ", expr.id as u64)?,
-        Answer::Refused(why) => say_number(rt, b" is refused by ", refusal_number(why))?,
+        Ok(made) => println!(rt; " gives node {}", made.expr.id),
+        Err(why) => println!(rt; " is refused by {}", coded_refusal(why)),
     }
-    say(rt, b"\n")
 }
 
 // Columns of 16 bits.
@@ -38,22 +39,16 @@ fn column(rt: &impl Print, col: usize) -> io::Result<()> {
     let mut places = [0u32; 8];
     let mut bases = [0u64; 2];
     let b = after(NONE, IrBuilder::new(&mut nodes, &mut places, &mut bases));
-    say_number(rt, b"column ", col as u64)?;
+    print!(rt; "column {col}")?;
     say_answer(rt, b.main(&mut nodes, &mut places, 0, col))
 }
 
-fn say_word(rt: &impl Print, word: u32) -> io::Result<()> {
-    say_number(rt, b" ", word as u64)
-}
-
-fn say_words(rt: &impl Print, name: &[u8], words: &[u32]) -> io::Result<()> {
-    say(rt, name)?;
-    let mut i: usize = 0;
-    while i < words.len() {
-        say_word(rt, words[i])?;
-        i += 1;
+fn say_words(rt: &impl Print, name: &str, words: &[u32]) -> io::Result<()> {
+    print!(rt; "{name}")?;
+    for word in words {
+        print!(rt; " {word}")?;
     }
-    say(rt, b"\n")
+    println!(rt; "")
 }
 
 // The blob of a program of two nodes and three roots, over tables that are long enough.
@@ -74,37 +69,38 @@ fn say_lowered(
     let mut out_exts = [0u64; 3];
     let mut out_roots = [0u32; 3];
     let exts = [0u64; 3];
-    match lower(
-        b.finish(3),
+    let program = ProgramRef {
+        counts: b.finish(3),
         nodes,
         bases,
-        &exts,
+        exts: &exts,
         roots,
-        &mut used,
-        &mut last_use,
-        &mut is_root,
-        &mut slot_of,
-        &mut free,
-        &mut out_nodes,
-        &mut out_bases,
-        &mut out_exts,
-        &mut out_roots,
-    ) {
-        Lowering::Lowered(k) => {
-            say_number(rt, b"lowered: nodes ", k.nodes as u64)?;
-            say_number(rt, b", base slots ", k.base_slots as u64)?;
-            say_words(rt, b", roots in slots", &out_roots)?;
-            say_words(rt, b"words of its nodes:", &out_nodes)
+    };
+    let mut lists = Lists {
+        used: &mut used,
+        last_use: &mut last_use,
+        is_root: &mut is_root,
+        slot_of: &mut slot_of,
+        free: &mut free,
+    };
+    let mut out = TableRooms {
+        nodes: &mut out_nodes,
+        bases: &mut out_bases,
+        exts: &mut out_exts,
+        roots: &mut out_roots,
+    };
+    match lower(&program, &mut lists, &mut out) {
+        Ok(k) => {
+            print!(rt; "lowered: nodes {}, base slots {}", k.nodes, k.base_slots)?;
+            say_words(rt, ", roots in slots", &out_roots)?;
+            say_words(rt, "words of its nodes:", &out_nodes)
         }
-        Lowering::Refused(why) => {
-            say_number(rt, b"lowering is refused by ", refusal_number(why))?;
-            say(rt, b"\n")
-        }
+        Err(why) => { println!(rt; "lowering is refused by {}", coded_refusal(why)) }
     }
 }
 
 // A cell over fresh tables.
-fn fresh_cell(nodes: &mut [u32], places: &mut [u32], bases: &mut [u64]) -> Answer {
+fn fresh_cell(nodes: &mut [u32], places: &mut [u32], bases: &mut [u64]) -> Result<Made, Refusal> {
     let b = after(
         NONE,
         IrBuilder::new(&mut nodes[..], &mut places[..], &mut bases[..]),
@@ -114,19 +110,19 @@ fn fresh_cell(nodes: &mut [u32], places: &mut [u32], bases: &mut [u64]) -> Answe
 
 fn emit_over(
     rt: &impl Print,
-    cell: Answer,
+    cell: Result<Made, Refusal>,
     nodes: &[u32],
     bases: &[u64],
     roots: &mut [u32],
 ) -> io::Result<()> {
-    let Answer::Made { expr, builder } = cell else {
-        return say(rt, b"the cell is refused\n");
+    let Ok(Made { expr, builder }) = cell else {
+        return println!(rt; "the cell is refused");
     };
-    let Emitted::Rooted(rooted) = builder.emit(nodes, &mut roots[..], 2, expr) else {
-        return say(rt, b"the root is refused\n");
+    let Ok(rooted) = builder.emit(nodes, &mut roots[..], 2, expr) else {
+        return println!(rt; "the root is refused");
     };
-    say_number(rt, b"emit(2) alone: ", rooted.roots as u64)?;
-    say_words(rt, b" roots:", roots)?;
+    print!(rt; "emit(2) alone: {}", rooted.roots)?;
+    say_words(rt, " roots:", roots)?;
     say_lowered(rt, rooted, nodes, bases, roots)
 }
 

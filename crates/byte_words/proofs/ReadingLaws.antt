@@ -1,5 +1,6 @@
 -- Laws of a file that was read.
 -- Assumes nothing.
+use Rattle.std.specs.Prelude.{Result, Ok, Err}
 use mathlib.Core.List.{List}
 use mathlib.Core.Path.{◌≡◌, ap, ◌∙◌}
 use Prim.Native.Nat.{ℕ}
@@ -9,18 +10,17 @@ use lib.ListN.{length}
 use Rattle.laws.proofs.Cases.{by_test}
 use Rattle.ir.specs.declared.refusal.Refusal.{Refusal}
 use Rattle.blob_rules.specs.declared.blob.BlobCounts.{BlobCounts}
-use Rattle.stored.specs.declared.read.ReadStored.{ReadStored}
 use Rattle.stored_parts.specs.Form.{Tables, counts_in, tables_in}
 use Rattle.stored.specs.Answer.{put, read_said, ReadAnswer}
 use Rattle.stored_parts.proofs.WordLaws.{sets_long}
 
-pub read_why : (r : ReadStored) {why why' : Refusal} → r ≡ ReadStored.Refused why → r ≡ ReadStored.Refused why' → why ≡ why'
+pub read_why : (r : Result BlobCounts Refusal) {why why' : Refusal} → r ≡ Err why → r ≡ Err why' → why ≡ why'
 read_why r p q = cc
 
-pub read_counts : (r : ReadStored) {c c' : BlobCounts} → r ≡ ReadStored.Read c → r ≡ ReadStored.Read c' → c ≡ c'
+pub read_counts : (r : Result BlobCounts Refusal) {c c' : BlobCounts} → r ≡ Ok c → r ≡ Ok c' → c ≡ c'
 read_counts r p q = cc
 
-pub read_both : (r : ReadStored) {why : Refusal} {c : BlobCounts} → r ≡ ReadStored.Refused why → r ≡ ReadStored.Read c → ⊥
+pub read_both : (r : Result BlobCounts Refusal) {why : Refusal} {c : BlobCounts} → r ≡ Err why → r ≡ Ok c → ⊥
 read_both r p q = let z : ◌≡◌ {A = ℕ} 0 1 = cc in omega arith
 
 -- rooms are as long as before
@@ -39,7 +39,7 @@ as_long t rooms e =
       roots_as = sets_long rooms.roots 0 t.roots (ap (λ (r : Tables). r.roots) e);
     }
 
-pub read_as_long : {file : List ℕ} {rooms rooms' : Tables} {r : ReadStored} → ReadAnswer file rooms r rooms' → AsLong rooms rooms'
+pub read_as_long : {file : List ℕ} {rooms rooms' : Tables} {r : Result BlobCounts Refusal} → ReadAnswer file rooms r rooms' → AsLong rooms rooms'
 read_as_long {file} {rooms} {rooms'} a =
     by_test (eqb (read_said file rooms).number 0) (AsLong rooms rooms')
     (λ t. as_long (tables_in (counts_in file) file) rooms (a.wrote ∙ rw t))

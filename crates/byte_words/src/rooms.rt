@@ -1,66 +1,34 @@
 // What the calls on bytes share: rooms that are too short, and words packed back.
-ghost use Rattle.std.specs.Prelude.{◌||◌, cond, ◌≡◌, ◌≤◌, ◌*◌, length, take};
+ghost use Rattle.std.specs.Prelude.{◌||◌, cond, ◌≡◌, ◌≤◌, length, take};
 ghost use Rattle.std.proofs.lemmas.List.Edits.{sets};
 ghost use Rattle.stored_parts.specs.Form.{spread};
 ghost use Rattle.byte_words.specs.Words.{whole};
 ghost use Rattle.byte_words.specs.Rooms.{short_room};
 
-use super::words::pack64;
-use little_endian::bytes::put_u32;
+use little_endian::bytes::Word;
+use stored_parts::writing::write_words;
 
-// Lengths of bytes and of their room, twice.
-pub fn short_rooms(a: usize, aw: usize, b: usize, bw: usize) -> bool
-    ensures { result ≡ (short_room 4 a aw || short_room 4 b bw) }
+// The room has fewer words than the bytes.
+pub fn is_tight<W: Word>(bytes: &[u8], room: &[W]) -> bool
+    ensures { result ≡ short_room W.BYTES (length bytes.now) (length room.now) }
 {
-    if aw < a / 4 {
-        return true;
-    }
-    bw < b / 4
+    room.len() < bytes.len() / W::BYTES
 }
 
-pub fn short_mixed(a: usize, aw: usize, b: usize, bw: usize) -> bool
-    ensures { result ≡ (short_room 4 a aw || short_room 8 b bw) }
+// Bytes and their room, twice.
+pub fn short_rooms<V: Word, W: Word>(a: &[u8], aw: &[V], b: &[u8], bw: &[W]) -> bool
+    ensures { result ≡ (short_room V.BYTES (length a.now) (length aw.now) || short_room W.BYTES (length b.now) (length bw.now)) }
 {
-    if aw < a / 4 {
-        return true;
-    }
-    short_wide(b, bw)
-}
-
-pub fn short_wide(a: usize, aw: usize) -> bool
-    ensures { result ≡ short_room 8 a aw }
-{
-    aw < a / 8
+    is_tight(a, aw) || is_tight(b, bw)
 }
 
 // The front of a room, as many words as the bytes hold; on a refusal the bytes stay.
-pub fn pack_front32(done: bool, room: &[u32], bytes: &mut [u8])
-    requires { whole 4 bytes.old ≤ length room.now }
-    ensures { bytes.new ≡ cond done (sets bytes.old 0 (spread 4 (take (whole 4 bytes.old) room.now))) bytes.old }
+pub fn pack_front<W: Word>(done: bool, room: &[W], bytes: &mut [u8])
+    requires { whole W.BYTES bytes.old ≤ length room.now }
+    ensures { bytes.new ≡ cond done (sets bytes.old 0 (spread W.BYTES (W.numbers (take (whole W.BYTES bytes.old) room.now)))) bytes.old }
 {
     if done {
-        let n = bytes.len() / 4;
-        pack32(&room[..n], bytes);
-    }
-}
-
-pub fn pack_front64(packs: bool, room: &[u64], bytes: &mut [u8])
-    requires { whole 8 bytes.old ≤ length room.now }
-    ensures { bytes.new ≡ cond packs (sets bytes.old 0 (spread 8 (take (whole 8 bytes.old) room.now))) bytes.old }
-{
-    if packs {
-        let n = bytes.len() / 8;
-        pack64(&room[..n], bytes);
-    }
-}
-
-fn pack32(from: &[u32], to: &mut [u8])
-    requires { 4 * length from.now ≤ length to.old }
-    ensures { to.new ≡ sets to.old 0 (spread 4 from.now) }
-{
-    let mut i: usize = 0;
-    while i < from.len() {
-        put_u32(&mut to[..], 4 * i, from[i]);
-        i += 1;
+        let count = bytes.len() / W::BYTES;
+        write_words(bytes, &room[..count]);
     }
 }

@@ -1,19 +1,22 @@
 -- Lowering over bytes: a program's words are unpacked, lowered, and its blob is written in stored form A.
 -- Assumes nothing.
-use Rattle.std.specs.Prelude.{Bool, true, false, cond, ◌||◌, List, ◌≡◌, ℕ, ◌/◌, ◌≤◌, ltb, length}
+use Rattle.std.specs.Prelude.{Bool, true, false, cond, ◌||◌, List, ◌≡◌, ℕ, ◌/◌, ◌≤◌, ltb, length, Result, Ok, Err}
 use Rattle.ir.specs.declared.program.Counts.{Counts}
 use Rattle.ir.specs.declared.refusal.Refusal.{Refusal}
 use Rattle.ir.specs.declared.refusal.Refusal.TheVariants.{ShortMemory, TooManyNodes, TooManyRoots}
 use Rattle.ir.specs.Program.{Program, too_many_nodes, too_many_roots}
 use Rattle.blob_rules.specs.declared.blob.BlobCounts.{BlobCounts}
-use Rattle.lower_parts.specs.declared.parts.Lowering.{Lowering}
 use Rattle.lower_parts.specs.Answer.{Lists, Output, LowerAnswer}
-use Rattle.stored.specs.declared.write.Stored.{Stored}
 use Rattle.stored_parts.specs.Form.{Tables}
 use Rattle.stored.specs.Answer.{put, WriteAnswer}
 use Rattle.byte_words.specs.Words.{whole, words_in}
+use Rattle.bytewise.specs.declared.lowering.TableBytes.{TableBytes}
 
 -- ---- a program's tables as bytes
+
+-- a program's tables as they are lent
+abbrev pub bytes_of : TableBytes → Tables
+bytes_of t = record { nodes = t.nodes.now; bases = t.bases.now; exts = t.exts.now; roots = t.roots.now }
 
 -- the words of each table
 abbrev pub words_of : Tables → Tables
@@ -62,15 +65,15 @@ tables_out o = record { nodes = o.nodes; bases = o.bases; exts = o.exts; roots =
 
 -- the program is lowered as `lower` lowers it; its refusal is the answer, and the file's bytes stay; else its blob is
 -- written as `write_stored` writes it
-pub record LowerFile (p : Program) (lists : Lists) (out : Output) (file : List ℕ) (answer : Stored) (lists' : Lists) (out' : Output) (file' : List ℕ) : Type 0 where
-  pub lowered : Lowering
+pub record LowerFile (p : Program) (lists : Lists) (out : Output) (file : List ℕ) (answer : Result ℕ Refusal) (lists' : Lists) (out' : Output) (file' : List ℕ) : Type 0 where
+  pub lowered : Result BlobCounts Refusal
   pub promised : LowerAnswer p lists out lowered lists' out'
-  pub refused : (why : Refusal) → lowered ≡ Lowering.Refused why → (answer ≡ Stored.Refused why) × (file' ≡ file)
-  pub written : (k : BlobCounts) → lowered ≡ Lowering.Lowered k → WriteAnswer k (tables_out out') file answer file'
+  pub refused : (why : Refusal) → lowered ≡ Err why → (answer ≡ Err why) × (file' ≡ file)
+  pub written : (k : BlobCounts) → lowered ≡ Ok k → WriteAnswer k (tables_out out') file answer file'
 
 -- 8 and 9, then 1 where a room is too short for its table, and nothing is written; else the tables' words stand in the rooms, and all else
 -- is as lowering those words has it
-pub record LowerStored (c : Counts) (tables rooms : Tables) (lists : Lists) (out : Output) (file : List ℕ) (answer : Stored) (rooms' : Tables) (lists' : Lists) (out' : Output) (file' : List ℕ) : Type 0 where
-  pub early : refused_early c tables rooms ≡ true → (answer ≡ Stored.Refused (why_early c)) × (rooms' ≡ rooms) × (lists' ≡ lists) × (out' ≡ out) × (file' ≡ file)
+pub record LowerStored (c : Counts) (tables rooms : Tables) (lists : Lists) (out : Output) (file : List ℕ) (answer : Result ℕ Refusal) (rooms' : Tables) (lists' : Lists) (out' : Output) (file' : List ℕ) : Type 0 where
+  pub early : refused_early c tables rooms ≡ true → (answer ≡ Err (why_early c)) × (rooms' ≡ rooms) × (lists' ≡ lists) × (out' ≡ out) × (file' ≡ file)
   pub unpacked : refused_early c tables rooms ≡ false → rooms' ≡ put (words_of tables) rooms
   pub lowering : refused_early c tables rooms ≡ false → LowerFile (program c (words_of tables)) lists out file answer lists' out' file'

@@ -1,62 +1,44 @@
 // Lowering over bytes: a program's tables as little-endian words, its blob in stored form A.
-ghost use Rattle.std.specs.Prelude.{◌||◌, ◌≡◌};
-ghost use Rattle.ir.specs.Program.{too_many_nodes, too_many_roots};
-ghost use Rattle.stored.specs.Answer.{put};
-ghost use Rattle.bytewise.specs.Lowering.{short_rooms, why_early, Roomy, words_of, LowerFile, LowerStored};
+ghost use Rattle.std.specs.Prelude.{◌≡◌};
+ghost use Rattle.ir.specs.Program.{program_of};
+ghost use Rattle.blob_rules.specs.Blob.{SameRooms};
+ghost use Rattle.lower_parts.specs.Inner.{SameLists};
+ghost use Rattle.lower_parts.specs.Answer.{lists_of, output_of};
+ghost use Rattle.stored.specs.Answer.{rooms_of, put};
+ghost use Rattle.bytewise.specs.Lowering.{bytes_of, short_for, refused_early, why_early, Roomy, words_of, LowerFile, LowerStored};
 
-use byte_words::words::{unpack32, unpack64};
-use ir::program::{Counts, too_many_nodes, too_many_roots};
+use blob_rules::blob::TableRooms;
+use byte_words::words::unpack;
+use ir::program::{Counts, ProgramRef, too_many_nodes, too_many_roots};
 use ir::refusal::Refusal;
 use lower::lower::lower;
-use lower_parts::parts::Lowering;
-use stored::write::{Stored, write_stored};
+use lower_parts::parts::Lists;
+use stored::write::{TablesRef, write_stored};
 
-// Lengths in bytes, then in words.
-fn short_rooms(
-    nodes: usize,
-    bases: usize,
-    exts: usize,
-    roots: usize,
-    n: usize,
-    b: usize,
-    x: usize,
-    r: usize,
-) -> bool
-    ensures { result ≡ short_rooms nodes bases exts roots n b x r }
+// A program's four tables as bytes.
+#[derive(Clone, Copy)]
+pub struct TableBytes<'a> {
+    pub nodes: &'a [u8],
+    pub bases: &'a [u8],
+    pub exts: &'a [u8],
+    pub roots: &'a [u8],
+}
+
+// A room has fewer words than its table.
+fn short_rooms(tables: &TableBytes, rooms: &TableRooms) -> bool
+    ensures { result ≡ short_for (bytes_of tables.now) (rooms_of rooms.now) }
 {
-    if n < nodes / 4 {
-        return true;
-    }
-    if b < bases / 8 {
-        return true;
-    }
-    if x < exts / 8 {
-        return true;
-    }
-    r < roots / 4
+    rooms.nodes.len() < tables.nodes.len() / 4
+        || rooms.bases.len() < tables.bases.len() / 8
+        || rooms.exts.len() < tables.exts.len() / 8
+        || rooms.roots.len() < tables.roots.len() / 4
 }
 
 // 8, 9, or a room that is too short.
-fn refused_early(
-    c: Counts,
-    nodes: usize,
-    bases: usize,
-    exts: usize,
-    roots: usize,
-    n: usize,
-    b: usize,
-    x: usize,
-    r: usize,
-) -> bool
-    ensures { result ≡ (too_many_nodes c || (too_many_roots c || short_rooms nodes bases exts roots n b x r)) }
+fn refused_early(c: Counts, tables: &TableBytes, rooms: &TableRooms) -> bool
+    ensures { result ≡ refused_early c (bytes_of tables.now) (rooms_of rooms.now) }
 {
-    if too_many_nodes(c) {
-        return true;
-    }
-    if too_many_roots(c) {
-        return true;
-    }
-    short_rooms(nodes, bases, exts, roots, n, b, x, r)
+    too_many_nodes(c) || too_many_roots(c) || short_rooms(tables, rooms)
 }
 
 // Which of the three it is.
@@ -72,111 +54,69 @@ fn early_refusal(c: Counts) -> Refusal
     Refusal::ShortMemory
 }
 
-fn unpack_tables(
-    nodes: &[u8],
-    bases: &[u8],
-    exts: &[u8],
-    roots: &[u8],
-    n: &mut [u32],
-    b: &mut [u64],
-    x: &mut [u64],
-    r: &mut [u32],
-)
-    requires { Roomy (record { nodes = nodes.now; bases = bases.now; exts = exts.now; roots = roots.now }) (record { nodes = n.old; bases = b.old; exts = x.old; roots = r.old }) }
-    ensures { record { nodes = n.new; bases = b.new; exts = x.new; roots = r.new } ≡ put (words_of (record { nodes = nodes.now; bases = bases.now; exts = exts.now; roots = roots.now })) (record { nodes = n.old; bases = b.old; exts = x.old; roots = r.old }) }
+fn unpack_tables(tables: &TableBytes, rooms: &mut TableRooms)
+    requires { Roomy (bytes_of tables.now) (rooms_of rooms.old) }
+    ensures unpacked { rooms_of rooms.new ≡ put (words_of (bytes_of tables.now)) (rooms_of rooms.old) }
+    ensures same_rooms { SameRooms rooms.new rooms.old }
 {
-    unpack32(nodes, n);
-    unpack64(bases, b);
-    unpack64(exts, x);
-    unpack32(roots, r);
+    unpack(tables.nodes, rooms.nodes);
+    unpack(tables.bases, rooms.bases);
+    unpack(tables.exts, rooms.exts);
+    unpack(tables.roots, rooms.roots);
 }
 
 // Lowers words, then writes the file.
 fn lower_file(
-    c: Counts,
-    nodes: &[u32],
-    bases: &[u64],
-    exts: &[u64],
-    roots: &[u32],
-    used: &mut [u32],
-    last: &mut [u32],
-    root: &mut [u32],
-    slot: &mut [u32],
-    free: &mut [u32],
-    blob: &mut [u32],
-    narrow: &mut [u64],
-    wide: &mut [u64],
-    ends: &mut [u32],
+    p: &ProgramRef,
+    lists: &mut Lists,
+    out: &mut TableRooms,
     file: &mut [u8],
-) -> Stored
-    ensures { LowerFile (record { counts = c; nodes = nodes.now; bases = bases.now; exts = exts.now; roots = roots.now }) (record { used = used.old; last = last.old; root = root.old; slot = slot.old; free = free.old }) (record { nodes = blob.old; bases = narrow.old; exts = wide.old; roots = ends.old }) file.old result (record { used = used.new; last = last.new; root = root.new; slot = slot.new; free = free.new }) (record { nodes = blob.new; bases = narrow.new; exts = wide.new; roots = ends.new }) file.new }
+) -> Result<usize, Refusal>
+    ensures answer { LowerFile (program_of p.now) (lists_of lists.old) (output_of out.old) file.old result (lists_of lists.new) (output_of out.new) file.new }
+    ensures same_lists { SameLists lists.new lists.old }
+    ensures same_rooms { SameRooms out.new out.old }
 {
-    match lower(
-        c, nodes, bases, exts, roots, used, last, root, slot, free, blob, narrow, wide, ends,
-    ) {
-        Lowering::Refused(why) => Stored::Refused(why),
-        Lowering::Lowered(k) => write_stored(k, &blob[..], &narrow[..], &wide[..], &ends[..], file),
-    }
+    let counts = lower(p, lists, out)?;
+    // By `&mut *`, since the borrow checker does not cover two `&*` into one `&mut` value.
+    let tables = TablesRef {
+        nodes: &mut *out.nodes,
+        bases: &mut *out.bases,
+        exts: &mut *out.exts,
+        roots: &mut *out.roots,
+    };
+    write_stored(counts, &tables, file)
 }
 
 // Lowering's own: 8, 9, 1, also where a room is too short for its table's words, 7, 10; then 10 where the file has no room.
 // The answer has the file's length in bytes.
 pub fn lower_stored(
     c: Counts,
-    nodes: &[u8],
-    bases: &[u8],
-    exts: &[u8],
-    roots: &[u8],
-    n: &mut [u32],
-    b: &mut [u64],
-    x: &mut [u64],
-    r: &mut [u32],
-    used: &mut [u32],
-    last: &mut [u32],
-    root: &mut [u32],
-    slot: &mut [u32],
-    free: &mut [u32],
-    blob: &mut [u32],
-    narrow: &mut [u64],
-    wide: &mut [u64],
-    ends: &mut [u32],
+    tables: &TableBytes,
+    rooms: &mut TableRooms,
+    lists: &mut Lists,
+    out: &mut TableRooms,
     file: &mut [u8],
-) -> Stored
-    ensures { LowerStored c (record { nodes = nodes.now; bases = bases.now; exts = exts.now; roots = roots.now }) (record { nodes = n.old; bases = b.old; exts = x.old; roots = r.old }) (record { used = used.old; last = last.old; root = root.old; slot = slot.old; free = free.old }) (record { nodes = blob.old; bases = narrow.old; exts = wide.old; roots = ends.old }) file.old result (record { nodes = n.new; bases = b.new; exts = x.new; roots = r.new }) (record { used = used.new; last = last.new; root = root.new; slot = slot.new; free = free.new }) (record { nodes = blob.new; bases = narrow.new; exts = wide.new; roots = ends.new }) file.new }
+) -> Result<usize, Refusal>
+    ensures answer { LowerStored c (bytes_of tables.now) (rooms_of rooms.old) (lists_of lists.old) (output_of out.old) file.old result (rooms_of rooms.new) (lists_of lists.new) (output_of out.new) file.new }
+    ensures same_places { SameRooms rooms.new rooms.old × SameLists lists.new lists.old × SameRooms out.new out.old }
 {
-    if refused_early(
-        c,
-        nodes.len(),
-        bases.len(),
-        exts.len(),
-        roots.len(),
-        n.len(),
-        b.len(),
-        x.len(),
-        r.len(),
-    ) {
-        return Stored::Refused(early_refusal(c));
+    if refused_early(c, tables, rooms) {
+        return Err(early_refusal(c));
     }
-    unpack_tables(nodes, bases, exts, roots, n, b, x, r);
-    let n_words = nodes.len() / 4;
-    let b_words = bases.len() / 8;
-    let x_words = exts.len() / 8;
-    let r_words = roots.len() / 4;
-    lower_file(
-        c,
-        &n[..n_words],
-        &b[..b_words],
-        &x[..x_words],
-        &r[..r_words],
-        used,
-        last,
-        root,
-        slot,
-        free,
-        blob,
-        narrow,
-        wide,
-        ends,
-        file,
-    )
+    unpack_tables(tables, rooms);
+    // Whole slices first: of a part of a lent field the check does not tell that it stays.
+    let words = TablesRef {
+        nodes: &mut *rooms.nodes,
+        bases: &mut *rooms.bases,
+        exts: &mut *rooms.exts,
+        roots: &mut *rooms.roots,
+    };
+    let program = ProgramRef {
+        counts: c,
+        nodes: &words.nodes[..tables.nodes.len() / 4],
+        bases: &words.bases[..tables.bases.len() / 8],
+        exts: &words.exts[..tables.exts.len() / 8],
+        roots: &words.roots[..tables.roots.len() / 4],
+    };
+    lower_file(&program, lists, out, file)
 }

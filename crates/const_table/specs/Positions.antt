@@ -1,15 +1,17 @@
 -- Where a constant stands in its table, and what is written of a new one.
 -- Assumes nothing.
-use Rattle.std.specs.Prelude.{Bool, false, cond, ◌&&◌, List, ℕ, zero, suc, ◌+◌, ◌*◌, ◌%◌, min, eqb, leb, get_or, set}
+use Rattle.std.specs.Prelude.{Bool, cond, ◌&&◌, List, ℕ, zero, suc, ◌+◌, ◌*◌, ◌%◌, min, eqb, ltb, leb, get_or, set, Option, Some, None}
 use Rattle.field.specs.Base.{p}
 use Rattle.ir.specs.Program.{most}
-use Rattle.node_table.specs.declared.table.Put.{Put}
-use Rattle.node_table.specs.declared.table.Put.TheVariants.{At, Full}
 
 -- from i on, the first of `left` numbers that passes the test, else the one after them
 unfoldable pub scan : (ℕ → Bool) → ℕ → ℕ → ℕ
 scan test zero i = i
 scan test (suc left) i = let r = scan test left (suc i) in cond (test i) i r
+
+-- the first of m numbers that passes the test, where one does
+abbrev pub found : (ℕ → Bool) → ℕ → Option ℕ
+found test m = cond (ltb (scan test m 0) m) (Some (scan test m 0)) None
 
 -- whether constant j of one word has the value of v
 abbrev pub same_base : List ℕ → ℕ → ℕ → Bool
@@ -42,8 +44,3 @@ with_ext xs m v = set (set (set xs (3 * m) (get_or v 0 0 % p)) (3 * m + 1) (get_
 -- 5: a new constant, and its table is full, which holds `fits` constants
 unfoldable pub crowded_b : Bool → ℕ → ℕ → Bool
 crowded_b new fits m = new && leb (min fits most) m
-
--- it is written where it is new and its node has a place
-abbrev pub kept_b : Put → Bool → Bool
-kept_b (At id count) new = new
-kept_b Full new = false

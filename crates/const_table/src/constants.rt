@@ -1,110 +1,132 @@
-// Constants by value: 0 and p are one.
-ghost use Rattle.std.specs.Prelude.{true, cond, ◌≡◌, ◌+◌, ◌*◌, ◌%◌, ◌<◌, ◌≤◌, eqb, length};
+// Constants by value: 0 and p are one. A base constant is one word, an extension constant three.
+ghost use Rattle.std.specs.Prelude.{◌≡◌, ◌+◌, ◌/◌, ◌%◌, ◌<◌, ◌≤◌, ℕ, Bool, List, eqb, length};
 ghost use Rattle.field.specs.Base.{p};
-ghost use Rattle.const_table.specs.Positions.{same_ext, position_of, ext_position_of, with_base, with_ext, crowded_b, kept_b};
+ghost use Rattle.ir.specs.Words.{const_base, const_ext};
+ghost use Rattle.const_table.specs.Positions.{same_base, same_ext, with_base, with_ext, found, crowded_b};
 
 use extension::extensions_goldilocks::Ext;
 use field::goldilocks::Fp;
+use ir::node::{DIM_BASE, DIM_EXT, OP_CONST_BASE, OP_CONST_EXT};
 use ir::program::MOST;
-use node_table::table::{Put, least};
 
-// Whether two words stand for one element.
-pub fn same_value(a: u64, b: u64) -> bool
+// A value that a table of constants holds, and the node that stands for it.
+pub trait Constant: Copy {
+    ghost TAG: { ℕ };
+
+    ghost DIM: { ℕ };
+
+    ghost fits: { List ℕ → ℕ };
+
+    ghost same: { Self → List ℕ → ℕ → Bool };
+
+    ghost written: { Self → List ℕ → ℕ → List ℕ };
+
+    const TAG: u32;
+
+    const DIM: u32;
+
+    // How many constants the words hold.
+    fn fits(words: &[u64]) -> usize
+        ensures { result ≡ fits words.now };
+
+    // Whether constant j has this value.
+    fn is_at(self, words: &[u64], j: usize) -> bool
+        requires { j < fits words.now }
+        ensures { result ≡ same self words.now j };
+
+    // Makes this value constant m.
+    fn write(self, words: &mut [u64], m: usize)
+        requires { m < fits words.old }
+        ensures { words.new ≡ written self words.old m };
+}
+
+// Whether two words stand for one element; the equality of u64 is that of the words.
+fn same_value(a: u64, b: u64) -> bool
     ensures { result ≡ eqb (a % p) (b % p) }
 {
     Fp::reduce(a) == Fp::reduce(b)
 }
 
-// The first of m constants with the value of v, else m.
-pub fn position(bases: &[u64], m: usize, v: u64) -> usize
-    requires { m ≤ length bases.now }
-    ensures { result ≡ position_of bases.now m v }
-{
-    let mut i: usize = 0;
-    while i < m {
-        if same_value(bases[i], v) {
-            return i;
-        }
-        i += 1;
-    }
-    i
-}
+impl Constant for u64 {
+    ghost TAG = { const_base };
 
-// Whether constant j has the value of v, limb by limb.
-fn same_ext(exts: &[u64], j: usize, v: Ext) -> bool
-    requires { 3 * j + 3 ≤ length exts.now }
-    ensures { result ≡ same_ext exts.now v.limbs j }
-{
-    let o = 3 * j;
-    if same_value(exts[o], v.limbs[0]) {
-        if same_value(exts[o + 1], v.limbs[1]) {
-            return same_value(exts[o + 2], v.limbs[2]);
-        }
-    }
-    false
-}
+    ghost DIM = { 0 };
 
-// The first of m extension constants with the value of v, else m.
-pub fn position_ext(exts: &[u64], m: usize, v: Ext) -> usize
-    requires { 3 * m ≤ length exts.now }
-    ensures { result ≡ ext_position_of exts.now m v.limbs }
-{
-    let mut i: usize = 0;
-    while i < m {
-        if same_ext(exts, i, v) {
-            return i;
-        }
-        i += 1;
-    }
-    i
-}
+    ghost fits = { length };
 
-// Constant m, where it is to be written.
-pub fn write_base(yes: bool, bases: &mut [u64], m: usize, v: u64)
-    requires { yes ≡ true → m < length bases.old }
-    ensures { bases.new ≡ cond yes (with_base bases.old m v) bases.old }
-{
-    if yes {
-        bases[m] = Fp::reduce(v);
+    ghost same = { λ v bs j. same_base bs v j };
+
+    ghost written = { λ v bs m. with_base bs m v };
+
+    const TAG: u32 = OP_CONST_BASE;
+
+    const DIM: u32 = DIM_BASE;
+
+    fn fits(words: &[u64]) -> usize {
+        words.len()
+    }
+
+    fn is_at(self, words: &[u64], j: usize) -> bool {
+        same_value(words[j], self)
+    }
+
+    fn write(self, words: &mut [u64], m: usize) {
+        words[m] = Fp::reduce(self);
     }
 }
 
-pub fn write_ext(yes: bool, exts: &mut [u64], m: usize, v: Ext)
-    requires { yes ≡ true → 3 * m + 3 ≤ length exts.old }
-    ensures { exts.new ≡ cond yes (with_ext exts.old m v.limbs) exts.old }
-{
-    if yes {
+impl Constant for Ext {
+    ghost TAG = { const_ext };
+
+    ghost DIM = { 1 };
+
+    ghost fits = { λ xs. length xs / 3 };
+
+    ghost same = { λ v xs j. same_ext xs v.limbs j };
+
+    ghost written = { λ v xs m. with_ext xs m v.limbs };
+
+    const TAG: u32 = OP_CONST_EXT;
+
+    const DIM: u32 = DIM_EXT;
+
+    fn fits(words: &[u64]) -> usize {
+        words.len() / 3
+    }
+
+    // Limb by limb.
+    fn is_at(self, words: &[u64], j: usize) -> bool {
+        let o = 3 * j;
+        same_value(words[o], self.limbs[0])
+            && same_value(words[o + 1], self.limbs[1])
+            && same_value(words[o + 2], self.limbs[2])
+    }
+
+    fn write(self, words: &mut [u64], m: usize) {
         let o = 3 * m;
-        exts[o] = Fp::reduce(v.limbs[0]);
-        exts[o + 1] = Fp::reduce(v.limbs[1]);
-        exts[o + 2] = Fp::reduce(v.limbs[2]);
+        words[o] = Fp::reduce(self.limbs[0]);
+        words[o + 1] = Fp::reduce(self.limbs[1]);
+        words[o + 2] = Fp::reduce(self.limbs[2]);
     }
 }
 
-// A count, one higher where a constant is new.
-pub fn grown(new: bool, m: usize) -> usize
-    requires { new ≡ true → m < 536870911 }
-    ensures { result ≡ cond new (m + 1) m }
+// The first of m constants with the value of v. The words that are lent are room for more.
+pub fn position<C: Constant>(words: &[u64], m: usize, v: C) -> Option<usize>
+    requires { m ≤ C.fits words.now }
+    ensures { result ≡ found (C.same v words.now) m }
 {
-    if new { m + 1 } else { m }
+    for j in 0..m {
+        if v.is_at(words, j) {
+            return Some(j);
+        }
+    }
+    None
 }
 
 // Whether a constant is new and its table is full.
+#[tactic(auto, unfolding(crate::specs::Positions::crowded_b))]
 pub fn crowded(new: bool, fits: usize, m: usize) -> bool
     ensures { result ≡ crowded_b new fits m }
 {
-    if new {
-        return least(fits, MOST) <= m;
-    }
-    false
-}
-
-// A constant is written once its node was pushed, so that a refusal leaves none behind.
-pub fn keeps(q: Put, new: bool) -> bool
-    ensures { result ≡ kept_b q new }
-{
-    match q {
-        Put::At { id, count } => new,
-        Put::Full => false,
-    }
+    new && fits.min(MOST) <= m
 }

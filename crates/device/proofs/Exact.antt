@@ -3,7 +3,7 @@
 -- Assumes nothing.
 use mathlib.Core.Bool.{Bool, true, false, cond, not, ◌&&◌, ◌||◌}
 use mathlib.Core.List.{List}
-use mathlib.Core.Option.{Option, none, some, some-injective}
+use Rattle.std.specs.Prelude.{Option, None, Some}
 use mathlib.Core.Path.{◌≡◌, refl, sym, ap, ◌∙◌}
 use Prim.Native.Nat.{ℕ, zero, suc}
 use native.Mathlib.Omega.{arith}
@@ -25,6 +25,7 @@ use Rattle.blob_rules.specs.declared.blob.BlobCounts.{BlobCounts}
 use Rattle.blob_rules.specs.Blob.{Instr, instr_at, base_slots_of, ext_slots_of, num_base_of, is_ext, slot_of, kind_of, payload_of, base_consts, ext_consts, challenges, alphas, size_of, Form, entry, cell, offset, binary, negation, embedding, Kind, base_slot, ext_slot, of, the_offset}
 use Rattle.device.specs.StepRule.{Contents, Slots, content_of, held_by, only_base, operand, base_operand, ext_operand, op₀, op₁, value_by, value_of, put, step, slots_after, root_held, root_value, stops_at}
 use Rattle.blob_rules.specs.Check.{Filled, slot_in, slot_of_class, filled_in, kind_ok, operand_ok, cell_ok, form_ok, node_ok, mark, filled_after, root_ok, illegal, ext_root}
+use Rattle.std.proofs.lemmas.Option.{same_Some}
 
 -- ---- of tests alone
 
@@ -66,18 +67,18 @@ module _ {B X : Type 0} (K : Tower B X) (tags : List Form) (kinds : List Kind) (
   as_base = only_base
 
   only_base_lem : (o : Option B) → missing (after (on1 base o) as_base) ≡ missing o
-  only_base_lem none = refl
-  only_base_lem (some x) = refl
+  only_base_lem None = refl
+  only_base_lem (Some x) = refl
 
-  only_base_if : (t : Bool) (x : B) → missing (after (only_if t (some (base x))) as_base) ≡ not t
+  only_base_if : (t : Bool) (x : B) → missing (after (only_if t (Some (base x))) as_base) ≡ not t
   only_base_if true x = refl
   only_base_if false x = refl
 
   never_base : (o : Option X) → missing (after (on1 ext o) as_base) ≡ true
-  never_base none = refl
-  never_base (some x) = refl
+  never_base None = refl
+  never_base (Some x) = refl
 
-  never_base_if : (t : Bool) (x : X) → missing (after (only_if t (some (ext x))) as_base) ≡ true
+  never_base_if : (t : Bool) (x : X) → missing (after (only_if t (Some (ext x))) as_base) ≡ true
   never_base_if true x = refl
   never_base_if false x = refl
 
@@ -89,24 +90,24 @@ module _ {B X : Type 0} (K : Tower B X) (tags : List Form) (kinds : List Kind) (
     ext_held k = g.exts_same k ∙ in_range (ltb k (ext_slots_of c)) (f.exts k) (g.exts_in k)
 
     base_kind : (o : Option Kind) (k : ℕ) → missing (after (after o (λ q. held_by kinds c s u m q k)) as_base) ≡ not (kind_ok tags kinds c s f false o k)
-    base_kind none k = refl
-    base_kind (some base_slot) k = only_base_lem (m.bases k) ∙ base_held k
-    base_kind (some ext_slot) k = never_base (m.exts k)
-    base_kind (some (of base_consts)) k = only_base_if (ltb k c.bases) (u.base_const k)
-    base_kind (some (of ext_consts)) k = never_base_if (ltb k c.exts) (u.ext_const k)
-    base_kind (some (of challenges)) k = never_base_if (ltb k s.challenges) (u.challenge k)
-    base_kind (some (of alphas)) k = never_base_if (ltb k s.alphas) (u.alpha k)
-    base_kind (some the_offset) k = never_base_if (eqb k 0) u.table_offset
+    base_kind None k = refl
+    base_kind (Some base_slot) k = only_base_lem (m.bases k) ∙ base_held k
+    base_kind (Some ext_slot) k = never_base (m.exts k)
+    base_kind (Some (of base_consts)) k = only_base_if (ltb k c.bases) (u.base_const k)
+    base_kind (Some (of ext_consts)) k = never_base_if (ltb k c.exts) (u.ext_const k)
+    base_kind (Some (of challenges)) k = never_base_if (ltb k s.challenges) (u.challenge k)
+    base_kind (Some (of alphas)) k = never_base_if (ltb k s.alphas) (u.alpha k)
+    base_kind (Some the_offset) k = never_base_if (eqb k 0) u.table_offset
 
     held_kind : (o : Option Kind) (k : ℕ) → missing (after o (λ q. held_by kinds c s u m q k)) ≡ not (kind_ok tags kinds c s f true o k)
-    held_kind none k = refl
-    held_kind (some base_slot) k = missing_on1 base (m.bases k) ∙ base_held k
-    held_kind (some ext_slot) k = missing_on1 ext (m.exts k) ∙ ext_held k
-    held_kind (some (of base_consts)) k = missing_only (ltb k (size_of c s base_consts)) (content_of u base_consts k)
-    held_kind (some (of ext_consts)) k = missing_only (ltb k (size_of c s ext_consts)) (content_of u ext_consts k)
-    held_kind (some (of challenges)) k = missing_only (ltb k (size_of c s challenges)) (content_of u challenges k)
-    held_kind (some (of alphas)) k = missing_only (ltb k (size_of c s alphas)) (content_of u alphas k)
-    held_kind (some the_offset) k = missing_only (eqb k 0) (ext u.table_offset)
+    held_kind None k = refl
+    held_kind (Some base_slot) k = missing_on1 base (m.bases k) ∙ base_held k
+    held_kind (Some ext_slot) k = missing_on1 ext (m.exts k) ∙ ext_held k
+    held_kind (Some (of base_consts)) k = missing_only (ltb k (size_of c s base_consts)) (content_of u base_consts k)
+    held_kind (Some (of ext_consts)) k = missing_only (ltb k (size_of c s ext_consts)) (content_of u ext_consts k)
+    held_kind (Some (of challenges)) k = missing_only (ltb k (size_of c s challenges)) (content_of u challenges k)
+    held_kind (Some (of alphas)) k = missing_only (ltb k (size_of c s alphas)) (content_of u alphas k)
+    held_kind (Some the_offset) k = missing_only (eqb k 0) (ext u.table_offset)
 
     base_operand_lem : (w : ℕ) → missing (base_operand kinds c s u m w) ≡ not (operand_ok tags kinds c s f false w)
     unfolding operand_ok base_operand
@@ -131,27 +132,27 @@ module _ {B X : Type 0} (K : Tower B X) (tags : List Form) (kinds : List Kind) (
 
     -- a trace cell, main or aux
     cell_stops : (res : ℕ) (t main l : Bool) (x : B) (y : X) → (a b : Bool) → l ≡ cond main a b
-        → missing (after (only_if t (cond main (only_if a (some (base x))) (only_if b (some (ext y))))) (into res)) ≡ not (t && l && fits (not main) res)
+        → missing (after (only_if t (cond main (only_if a (Some (base x))) (only_if b (Some (ext y))))) (into res)) ≡ not (t && l && fits (not main) res)
     cell_stops res true true l x y a b e = rw e (stop_only (into res) (fits false res) a (base x) (put_stops res (base x)))
     cell_stops res true false l x y a b e = rw e (stop_only (into res) (fits true res) b (ext y) (put_stops res (ext y)))
     cell_stops res false main l x y a b e = refl
 
     form_stops : (o : Option Form) (w : Instr) → missing (after (after o (λ q. value_by K tags kinds c s u m q w)) (into w.res)) ≡ not (form_ok tags kinds c s f o w)
     unfolding cell_ok
-    form_stops none w = refl
-    form_stops (some (entry base_consts)) w = stop_twice (into w.res) (fits false w.res) (eqb w.b 0) (ltb w.a c.bases) (base (u.base_const w.a)) (put_stops w.res (base (u.base_const w.a)))
-    form_stops (some (entry ext_consts)) w = stop_twice (into w.res) (fits true w.res) (eqb w.b 0) (ltb w.a c.exts) (ext (u.ext_const w.a)) (put_stops w.res (ext (u.ext_const w.a)))
-    form_stops (some (entry challenges)) w = stop_twice (into w.res) (fits true w.res) (eqb w.b 0) (ltb w.a s.challenges) (ext (u.challenge w.a)) (put_stops w.res (ext (u.challenge w.a)))
-    form_stops (some (entry alphas)) w = stop_twice (into w.res) (fits true w.res) (eqb w.b 0) (ltb w.a s.alphas) (ext (u.alpha w.a)) (put_stops w.res (ext (u.alpha w.a)))
-    form_stops (some cell) w =
+    form_stops None w = refl
+    form_stops (Some (entry base_consts)) w = stop_twice (into w.res) (fits false w.res) (eqb w.b 0) (ltb w.a c.bases) (base (u.base_const w.a)) (put_stops w.res (base (u.base_const w.a)))
+    form_stops (Some (entry ext_consts)) w = stop_twice (into w.res) (fits true w.res) (eqb w.b 0) (ltb w.a c.exts) (ext (u.ext_const w.a)) (put_stops w.res (ext (u.ext_const w.a)))
+    form_stops (Some (entry challenges)) w = stop_twice (into w.res) (fits true w.res) (eqb w.b 0) (ltb w.a s.challenges) (ext (u.challenge w.a)) (put_stops w.res (ext (u.challenge w.a)))
+    form_stops (Some (entry alphas)) w = stop_twice (into w.res) (fits true w.res) (eqb w.b 0) (ltb w.a s.alphas) (ext (u.alpha w.a)) (put_stops w.res (ext (u.alpha w.a)))
+    form_stops (Some cell) w =
         cell_stops w.res (ltb w.a 65536 && ltb w.b 131072 && eqb (row_of w.b) 0 && ltb (offset_of w.b) s.steps) (main_of w.b) _ (u.main (offset_of w.b) w.a) (u.aux (offset_of w.b) w.a)
         (ltb w.a s.main) (ltb w.a s.aux) (one_bound (main_of w.b) w.a s.main s.aux)
       where
         one_bound : (b : Bool) (k i j : ℕ) → ltb k (cond b i j) ≡ cond b (ltb k i) (ltb k j)
         one_bound true k i j = refl
         one_bound false k i j = refl
-    form_stops (some offset) w = stop_only (into w.res) (fits true w.res) (eqb w.a 0 && eqb w.b 0) (ext u.table_offset) (put_stops w.res (ext u.table_offset))
-    form_stops (some (binary o)) w = by_class (is_ext w.res) refl
+    form_stops (Some offset) w = stop_only (into w.res) (fits true w.res) (eqb w.a 0 && eqb w.b 0) (ext u.table_offset) (put_stops w.res (ext u.table_offset))
+    form_stops (Some (binary o)) w = by_class (is_ext w.res) refl
       where
         by_class : (e : Bool) → is_ext w.res ≡ e
             → missing (after (cond e (on2 (λ x y. ext (op₁ K o x y)) (ext_operand kinds c s u K m w.a) (ext_operand kinds c s u K m w.b)) (on2 (λ x y. base (op₀ K o x y)) (base_operand kinds c s u m w.a) (base_operand kinds c s u m w.b))) (into w.res))
@@ -162,7 +163,7 @@ module _ {B X : Type 0} (K : Tower B X) (tags : List Form) (kinds : List Kind) (
         by_class false h =
             stop_on2 (into w.res) (slot_in c w.res) (λ x y. base (op₀ K o x y)) (operand_ok tags kinds c s f false w.a) (operand_ok tags kinds c s f false w.b) (base_operand kinds c s u m w.a) (base_operand kinds c s u m w.b)
             (base_operand_lem w.a) (base_operand_lem w.b) (λ x y. put_stops w.res (base (op₀ K o x y)) ∙ ap (λ (e : Bool). not (not e && slot_in c w.res)) h)
-    form_stops (some negation) w = by_class (is_ext w.res) refl
+    form_stops (Some negation) w = by_class (is_ext w.res) refl
       where
         by_class : (e : Bool) → is_ext w.res ≡ e
             → missing (after (only_if (eqb w.b 0) (cond e (on1 (λ x. ext (K.neg₁ x)) (ext_operand kinds c s u K m w.a)) (on1 (λ x. base (K.neg₀ x)) (base_operand kinds c s u m w.a)))) (into w.res))
@@ -173,7 +174,7 @@ module _ {B X : Type 0} (K : Tower B X) (tags : List Form) (kinds : List Kind) (
         by_class false h =
             stop_on1 (into w.res) (slot_in c w.res) (λ x. base (K.neg₀ x)) (eqb w.b 0) (operand_ok tags kinds c s f false w.a) (base_operand kinds c s u m w.a)
             (base_operand_lem w.a) (λ x. put_stops w.res (base (K.neg₀ x)) ∙ ap (λ (e : Bool). not (not e && slot_in c w.res)) h)
-    form_stops (some embedding) w =
+    form_stops (Some embedding) w =
         stop_on1 (into w.res) (fits true w.res) ext (eqb w.b 0) (operand_ok tags kinds c s f true w.a) (ext_operand kinds c s u K m w.a) (ext_operand_lem w.a) (λ x. put_stops w.res (ext x))
 
     -- the rule stops at a node exactly where the check finds fault
@@ -184,21 +185,21 @@ module _ {B X : Type 0} (K : Tower B X) (tags : List Form) (kinds : List Kind) (
     -- ---- the slots after a node
 
     -- what a slot holds that was filled, and the others
-    filled_slot : {A : Type 0} (h : ℕ → Option A) (b : ℕ → Bool) (r : ℕ) (x : A) → ((k : ℕ) → missing (h k) ≡ not (b k)) → (k : ℕ) → missing (upd h r (some x) k) ≡ not (upd b r true k)
+    filled_slot : {A : Type 0} (h : ℕ → Option A) (b : ℕ → Bool) (r : ℕ) (x : A) → ((k : ℕ) → missing (h k) ≡ not (b k)) → (k : ℕ) → missing (upd h r (Some x) k) ≡ not (upd b r true k)
     unfolding upd
-    filled_slot h b r x same k = by_test (eqb k r) (missing (cond (eqb k r) (some x) (h k)) ≡ not (cond (eqb k r) true (b k))) (λ e. rw e) (λ e. rw e (same k))
+    filled_slot h b r x same k = by_test (eqb k r) (missing (cond (eqb k r) (Some x) (h k)) ≡ not (cond (eqb k r) true (b k))) (λ e. rw e) (λ e. rw e (same k))
 
     filled_in_lem : (b : ℕ → Bool) (r n : ℕ) → ltb r n ≡ true → ((k : ℕ) → b k ≡ true → ltb k n ≡ true) → (k : ℕ) → upd b r true k ≡ true → ltb k n ≡ true
     unfolding upd
     filled_in_lem b r n l in-bound k h = by_test (eqb k r) (ltb k n ≡ true) (λ e. rw (eqb-true k r e) l) (λ e. in-bound k (rw e at h))
 
-    put_agrees : (res : ℕ) (v : Value B X) (n : Slots B X) → into res v ≡ some n → Agrees n (mark f res)
+    put_agrees : (res : ℕ) (v : Value B X) (n : Slots B X) → into res v ≡ Some n → Agrees n (mark f res)
     put_agrees res (base x) n h =
         let t = not (is_ext res) in
         let l = ltb (slot_of res) (base_slots_of c) in
-        let q = only_some (t && l) (some (record { bases = upd m.bases (slot_of res) (some x); exts = m.exts })) h in
+        let q = only_some (t && l) (Some (record { bases = upd m.bases (slot_of res) (Some x); exts = m.exts })) h in
         let e : is_ext res ≡ false = not_held (is_ext res) (and_left t l q.0) in
-        let z = some-injective (record { bases = upd m.bases (slot_of res) (some x); exts = m.exts }) n q.1 in
+        let z = same_Some (record { bases = upd m.bases (slot_of res) (Some x); exts = m.exts }) n q.1 in
         rw (sym z, e)
         (record {
           bases_same = filled_slot m.bases f.bases (slot_of res) x g.bases_same;
@@ -209,9 +210,9 @@ module _ {B X : Type 0} (K : Tower B X) (tags : List Form) (kinds : List Kind) (
     put_agrees res (ext x) n h =
         let t = is_ext res in
         let l = ltb (slot_of res) (ext_slots_of c) in
-        let q = only_some (t && l) (some (record { bases = m.bases; exts = upd m.exts (slot_of res) (some x) })) h in
+        let q = only_some (t && l) (Some (record { bases = m.bases; exts = upd m.exts (slot_of res) (Some x) })) h in
         let e : is_ext res ≡ true = and_left t l q.0 in
-        let z = some-injective (record { bases = m.bases; exts = upd m.exts (slot_of res) (some x) }) n q.1 in
+        let z = same_Some (record { bases = m.bases; exts = upd m.exts (slot_of res) (Some x) }) n q.1 in
         rw (sym z, e)
         (record {
           bases_same = g.bases_same;
@@ -220,7 +221,7 @@ module _ {B X : Type 0} (K : Tower B X) (tags : List Form) (kinds : List Kind) (
           exts_in = filled_in_lem f.exts (slot_of res) (ext_slots_of c) (and_right t l q.0) g.exts_in;
         })
 
-    step_agrees : (w : Instr) (n : Slots B X) → step K tags kinds c s u m w ≡ some n → Agrees n (mark f w.res)
+    step_agrees : (w : Instr) (n : Slots B X) → step K tags kinds c s u m w ≡ Some n → Agrees n (mark f w.res)
     unfolding step
     step_agrees w n h =
         let q = after_some (value_of K tags kinds c s u m w) (into w.res) h in
@@ -247,7 +248,7 @@ module _ {B X : Type 0} (K : Tower B X) (tags : List Form) (kinds : List Kind) (
   -- the rule got through i nodes, and its slots are those that the check counts as filled
   pub record Through (nodes : List ℕ) (i : ℕ) : Type 0 where
     pub slots : Slots B X
-    pub come : slots_after K tags kinds c s u nodes i ≡ some slots
+    pub come : slots_after K tags kinds c s u nodes i ≡ Some slots
     pub agrees : Agrees slots (filled_after nodes i)
 
   module _ (nodes : List ℕ) where
@@ -272,16 +273,16 @@ module _ {B X : Type 0} (K : Tower B X) (tags : List Form) (kinds : List Kind) (
           agrees = step_agrees t.slots (filled_after nodes i) t.agrees (instr_at nodes i) q.0 q.1;
         }
 
-    pub through : (n : ℕ) → lowest bad n ≡ none → Through nodes n
+    pub through : (n : ℕ) → lowest bad n ≡ None → Through nodes n
     unfolding slots_after filled_after lowest
     through zero h =
         record {
-          slots = record { bases = λ k. none; exts = λ k. none };
+          slots = record { bases = λ k. None; exts = λ k. None };
           come = refl;
           agrees = record { bases_same = λ k. refl; exts_same = λ k. refl; bases_in = λ k e. clash e refl; exts_in = λ k e. clash e refl };
         }
     through (suc n) h =
-        let a = or_none_left (lowest bad n) (cond (bad n) (some n) none) h in
+        let a = or_none_left (lowest bad n) (cond (bad n) (Some n) None) h in
         through_next n (through n a) (lowest_none bad (suc n) h n (omega arith))
 
     pub nodes_exact : (n : ℕ) → lowest stops n ≡ lowest bad n
@@ -306,11 +307,11 @@ module _ {B X : Type 0} (K : Tower B X) (tags : List Form) (kinds : List Kind) (
       exact_11 = rw (nodes_exact c.nodes) (by_nodes (lowest bad c.nodes) refl)
         where
           by_nodes : (o : Option ℕ) → lowest bad c.nodes ≡ o → or_else o (lowest (stops_root 0) c.roots) ≡ or_else o (lowest bad_root c.roots)
-          by_nodes (some i) e = refl
-          by_nodes none e = lowest_same (stops_root 0) bad_root c.roots (λ r l h. roots_exact 0 (through c.nodes e) r ∙ ap (λ (t : Bool). t && is_ext (get_or roots r 0) || bad_root r) (le-ltb r 0 (omega arith)))
+          by_nodes (Some i) e = refl
+          by_nodes None e = lowest_same (stops_root 0) bad_root c.roots (λ r l h. roots_exact 0 (through c.nodes e) r ∙ ap (λ (t : Bool). t && is_ext (get_or roots r 0) || bad_root r) (le-ltb r 0 (omega arith)))
 
       -- 12 exactly where that passes and the rule stops, at its place
-      pub exact_12 : illegal tags kinds c s nodes roots ≡ none → stops_at K tags kinds c s u (num_base_of c) nodes roots ≡ ext_root c roots
+      pub exact_12 : illegal tags kinds c s nodes roots ≡ None → stops_at K tags kinds c s u (num_base_of c) nodes roots ≡ ext_root c roots
       unfolding stops_at illegal ext_root
       exact_12 h =
           let a = or_none_left (lowest bad c.nodes) (lowest bad_root c.roots) h in
@@ -324,7 +325,7 @@ module _ {B X : Type 0} (K : Tower B X) (tags : List Form) (kinds : List Kind) (
           or_false false = refl
 
       -- the check passes where the rule gets through all nodes and all roots
-      pub passes_through : stops_at K tags kinds c s u (num_base_of c) nodes roots ≡ none → (illegal tags kinds c s nodes roots ≡ none) × (ext_root c roots ≡ none)
+      pub passes_through : stops_at K tags kinds c s u (num_base_of c) nodes roots ≡ None → (illegal tags kinds c s nodes roots ≡ None) × (ext_root c roots ≡ None)
       unfolding stops_at illegal
       passes_through h =
           let stopped = lowest stops c.nodes in
@@ -333,5 +334,5 @@ module _ {B X : Type 0} (K : Tower B X) (tags : List Form) (kinds : List Kind) (
           let r = lowest_none (stops_root (num_base_of c)) c.roots (or_none_right stopped after_nodes h) in
           let t = through c.nodes a in
           let b = none_lowest bad_root c.roots (λ k l. or_right (wrong_class (num_base_of c) k) (bad_root k) (sym (roots_exact (num_base_of c) t k) ∙ r k l)) in
-          let q : illegal tags kinds c s nodes roots ≡ none = rw (a, b) in
+          let q : illegal tags kinds c s nodes roots ≡ None = rw (a, b) in
           (q, sym (exact_12 q) ∙ h)

@@ -2,7 +2,7 @@
 -- Assumes nothing.
 use mathlib.Core.Bool.{Bool, true, false, not, ◌&&◌, ◌||◌}
 use mathlib.Core.List.{[], ◌∷◌}
-use mathlib.Core.Option.{Option, none, some}
+use Rattle.std.specs.Prelude.{Option, None, Some}
 use mathlib.Core.Path.{◌≡◌, refl, ap, ◌∙◌}
 use Prim.Native.Nat.{ℕ, ◌<◌, ◌≤◌}
 use native.Mathlib.Nat.{le_refl}
@@ -44,8 +44,8 @@ module _ {B X : Type 0} (K : Tower B X) (u : Contents B X) (b : Blob) (s : Shape
       by_fault i refl
     where
       by_fault : (o : Option ℕ) → illegal tags kinds b.counts s b.nodes b.roots ≡ o → first (legal_rows b s) (gives []) ≡ rule_says
-      by_fault (some i) e = rw (exact_11 K tags kinds b.counts s u b.nodes b.roots, e)
-      by_fault none e = rw (exact_11 K tags kinds b.counts s u b.nodes b.roots, exact_12 K tags kinds b.counts s u b.nodes b.roots e, e)
+      by_fault (Some i) e = rw (exact_11 K tags kinds b.counts s u b.nodes b.roots, e)
+      by_fault None e = rw (exact_11 K tags kinds b.counts s u b.nodes b.roots, exact_12 K tags kinds b.counts s u b.nodes b.roots e, e)
 
   -- the check says what the rule says, for any tower and any contents, where shape and memory suffice
   pub check_is_exact : (marks : ℕ) → over_shape s ≡ false → short_check b.counts (length b.nodes) (length b.roots) marks ≡ false
@@ -53,12 +53,12 @@ module _ {B X : Type 0} (K : Tower B X) (u : Contents B X) (b : Blob) (s : Shape
   check_is_exact marks e z = rw (e, z) legal_says
 
   -- it passes where the rule gets through all nodes and all roots, and only there
-  pub passes : stops (num_base_of b.counts) ≡ none → first (legal_rows b s) (gives []) ≡ gives []
+  pub passes : stops (num_base_of b.counts) ≡ None → first (legal_rows b s) (gives []) ≡ gives []
   passes h =
       let q = passes_through K tags kinds b.counts s u b.nodes b.roots h in
       rw (q.0, q.1)
 
-  pub gets_through : first (legal_rows b s) (gives []) ≡ gives [] → stops (num_base_of b.counts) ≡ none
+  pub gets_through : first (legal_rows b s) (gives []) ≡ gives [] → stops (num_base_of b.counts) ≡ None
   gets_through h =
       let i = illegal tags kinds b.counts s b.nodes b.roots in
       let x = ext_root b.counts b.roots in
@@ -125,5 +125,5 @@ unknown_is_11 b s marks i e z l h = rw (e, z) (by_fault (lowest (bad_node b.coun
     at_i = ap not (unknown_fails b.counts s (filled_after b.nodes i) (instr_at b.nodes i) h)
 
     by_fault : (o : Option ℕ) → lowest (bad_node b.counts s b.nodes) b.counts.nodes ≡ o → (first (legal_rows b s) (gives [])).number ≡ 11
-    by_fault (some k) q = rw q
-    by_fault none q = clash at_i (lowest_none (bad_node b.counts s b.nodes) b.counts.nodes q i l)
+    by_fault (Some k) q = rw q
+    by_fault None q = clash at_i (lowest_none (bad_node b.counts s b.nodes) b.counts.nodes q i l)

@@ -18,8 +18,7 @@
 -- The rule says what happens, not how to test for it beforehand: the blob check is defined apart, in Check.antt, and
 -- `check_is_exact` of proofs/Theorem.antt says that the two agree. K is any tower; u is what constants, cells and uniforms hold.
 -- Assumes nothing.
-use Rattle.std.specs.Prelude.{cond, not, ◌&&◌, List, ℕ, zero, suc, eqb, ltb, get_or}
-use Rattle.std.proofs.Math.Option.{Option, none, some}
+use Rattle.std.specs.Prelude.{cond, not, ◌&&◌, List, ℕ, zero, suc, eqb, ltb, get_or, Option, None, Some}
 use Rattle.laws.specs.Folds.{lowest, or_else}
 use Rattle.laws.specs.Maps.{upd}
 use Rattle.laws.specs.Options.{after, on1, on2, only_if, missing, at}
@@ -57,22 +56,22 @@ module _ {B X : Type 0} (u : Contents B X) where
 
   -- the same, where the table has it
   abbrev pub named : BlobCounts → Shape → Table → ℕ → Option (Value B X)
-  named c s t k = only_if (ltb k (size_of c s t)) (some (content_of t k))
+  named c s t k = only_if (ltb k (size_of c s t)) (Some (content_of t k))
 
   -- the trace cell that two words name: no spare bit, row 0, and inside the frame
   abbrev pub cell_of : Shape → ℕ → ℕ → Option (Value B X)
   cell_of s x y =
       only_if (ltb x 65536 && ltb y 131072 && eqb (row_of y) 0 && ltb (offset_of y) s.steps)
       (cond (main_of y)
-      (only_if (ltb x s.main) (some (base (u.main (offset_of y) x))))
-      (only_if (ltb x s.aux) (some (ext (u.aux (offset_of y) x)))))
+      (only_if (ltb x s.main) (Some (base (u.main (offset_of y) x))))
+      (only_if (ltb x s.aux) (Some (ext (u.aux (offset_of y) x)))))
 
 -- ---- operands
 
 -- a value, if it is base
 abbrev pub only_base : {B X : Type 0} → Value B X → Option B
-only_base (base x) = some x
-only_base (ext x) = none
+only_base (base x) = Some x
+only_base (ext x) = None
 
 module _ {B X : Type 0} (kinds : List Kind) (c : BlobCounts) (s : Shape) (u : Contents B X) where
   -- what an operand of a kind holds
@@ -80,7 +79,7 @@ module _ {B X : Type 0} (kinds : List Kind) (c : BlobCounts) (s : Shape) (u : Co
   held_by m base_slot k = on1 base (m.bases k)
   held_by m ext_slot k = on1 ext (m.exts k)
   held_by m (of t) k = named u c s t k
-  held_by m the_offset k = only_if (eqb k 0) (some (ext u.table_offset))
+  held_by m the_offset k = only_if (eqb k 0) (Some (ext u.table_offset))
 
   -- what an operand word names
   abbrev pub operand : Slots B X → ℕ → Option (Value B X)
@@ -112,9 +111,9 @@ module _ {B X : Type 0} (K : Tower B X) where
 -- the slots with a value put where a result word says: its class is the value's, and there is such a slot
 abbrev pub put : {B X : Type 0} → BlobCounts → Slots B X → ℕ → Value B X → Option (Slots B X)
 put c m res (base x) =
-    only_if (not (is_ext res) && ltb (slot_of res) (base_slots_of c)) (some (record { bases = upd m.bases (slot_of res) (some x); exts = m.exts }))
+    only_if (not (is_ext res) && ltb (slot_of res) (base_slots_of c)) (Some (record { bases = upd m.bases (slot_of res) (Some x); exts = m.exts }))
 put c m res (ext x) =
-    only_if (is_ext res && ltb (slot_of res) (ext_slots_of c)) (some (record { bases = m.bases; exts = upd m.exts (slot_of res) (some x) }))
+    only_if (is_ext res && ltb (slot_of res) (ext_slots_of c)) (Some (record { bases = m.bases; exts = upd m.exts (slot_of res) (Some x) }))
 
 module _ {B X : Type 0} (K : Tower B X) (tags : List Form) (kinds : List Kind) (c : BlobCounts) (s : Shape) (u : Contents B X) where
   -- operands of a base result, and of an extension result
@@ -129,7 +128,7 @@ module _ {B X : Type 0} (K : Tower B X) (tags : List Form) (kinds : List Kind) (
   abbrev pub value_by : Slots B X → Form → Instr → Option (Value B X)
   value_by m (entry t) w = only_if (eqb w.b 0) (named u c s t w.a)
   value_by m cell w = cell_of u s w.a w.b
-  value_by m offset w = only_if (eqb w.a 0 && eqb w.b 0) (some (ext u.table_offset))
+  value_by m offset w = only_if (eqb w.a 0 && eqb w.b 0) (Some (ext u.table_offset))
   value_by m (binary o) w =
       cond (is_ext w.res) (on2 (λ x y. ext (op₁ K o x y)) (in₁ m w.a) (in₁ m w.b)) (on2 (λ x y. base (op₀ K o x y)) (in₀ m w.a) (in₀ m w.b))
   value_by m negation w =
@@ -148,7 +147,7 @@ module _ {B X : Type 0} (K : Tower B X) (tags : List Form) (kinds : List Kind) (
 
   -- the slots after the first i nodes; at the start all are empty
   unfoldable pub slots_after : List ℕ → ℕ → Option (Slots B X)
-  slots_after nodes zero = some (record { bases = λ k. none; exts = λ k. none })
+  slots_after nodes zero = Some (record { bases = λ k. None; exts = λ k. None })
   slots_after nodes (suc i) = after (slots_after nodes i) λ m. step m (instr_at nodes i)
 
 -- what a root word names

@@ -1,134 +1,106 @@
 // The blob check: node after node and root after root, with one byte a slot that says whether it was filled.
 ghost use Rattle.std.specs.Prelude.{not, [], ◌≡◌, ◌+◌, ◌*◌, ◌<◌, ◌≤◌, length, get_or};
 ghost use Rattle.laws.specs.Folds.{lowest};
-ghost use Rattle.ir.specs.Refusals.{place_of, said_of_outcome, first, gives};
+ghost use Rattle.ir.specs.Refusals.{said_of_outcome, first, gives};
+ghost use Rattle.blob_rules.specs.Blob.{lent_blob};
 ghost use Rattle.blob_rules.specs.Check.{root_ok, filled_after, ext_root, slot_count, cleared, CheckAnswer};
 ghost use Rattle.blob_rules.specs.Marks.{marked, Alike, NodesChecked, root_rows, Searched, LegalChecked};
 
-use blob_rules::blob::{BlobCounts, is_ext};
-use blob_rules::legal::{both, node_ok, root_ok, set_mark, short_check};
+use blob_rules::blob::{BlobCounts, BlobRef, is_ext};
+use blob_rules::legal::{node_ok, root_ok, set_mark, short_check};
 use ir::frame::{Shape, over_shape};
-use ir::refusal::{Outcome, Place, Refusal};
+use ir::refusal::Refusal;
 
 // The lowest node at fault. A slot counts as filled for the nodes after the one that fills it.
-fn lowest_bad_node(c: BlobCounts, s: Shape, nodes: &[u32], marks: &mut [u8]) -> Place
+fn lowest_bad_node(c: BlobCounts, s: Shape, nodes: &[u32], marks: &mut [u8]) -> Option<usize>
     requires { (4 * c.nodes ≤ length nodes.now) × (slot_count c ≤ length marks.old) × Alike c (marked c marks.old) (filled_after nodes.now 0) }
     ensures { NodesChecked (record { counts = c; nodes = nodes.now; roots = [] }) s result marks.old marks.new }
 {
     let n = c.nodes as usize;
-    let mut i: usize = 0;
-    while i < n {
-        if !node_ok(c, s, nodes, &marks[..], i) {
-            return Place::At(i);
+    for i in 0..n {
+        if !node_ok(c, s, nodes, marks, i) {
+            return Some(i);
         }
-        set_mark(c, &mut marks[..], nodes[4 * i + 3]);
-        i += 1;
+        set_mark(c, marks, nodes[4 * i + 3]);
     }
-    Place::Nowhere
+    None
 }
 
-fn lowest_bad_root(c: BlobCounts, roots: &[u32], marks: &[u8]) -> Place
+fn lowest_bad_root(c: BlobCounts, roots: &[u32], marks: &[u8]) -> Option<usize>
     requires { (c.roots ≤ length roots.now) × (slot_count c ≤ length marks.now) }
-    ensures { place_of result ≡ lowest (λ k. not (root_ok c (marked c marks.now) (get_or roots.now k 0))) c.roots }
+    ensures { result ≡ lowest (λ k. not (root_ok c (marked c marks.now) (get_or roots.now k 0))) c.roots }
 {
     let count = c.roots as usize;
-    let mut i: usize = 0;
-    while i < count {
+    for i in 0..count {
         if !root_ok(c, marks, roots[i]) {
-            return Place::At(i);
+            return Some(i);
         }
-        i += 1;
     }
-    Place::Nowhere
+    None
 }
 
 // The lowest root below num_base that is extension.
-fn lowest_ext_root(c: BlobCounts, roots: &[u32]) -> Place
+fn lowest_ext_root(c: BlobCounts, roots: &[u32]) -> Option<usize>
     requires { c.roots ≤ length roots.now }
-    ensures { place_of result ≡ ext_root c roots.now }
+    ensures { result ≡ ext_root c roots.now }
 {
     let leading = c.num_base as usize;
     let count = c.roots as usize;
-    let mut i: usize = 0;
-    while i < count {
-        if both(i < leading, is_ext(roots[i])) {
-            return Place::At(i);
+    for i in 0..count {
+        if (i < leading) & is_ext(roots[i]) {
+            return Some(i);
         }
-        i += 1;
     }
-    Place::Nowhere
-}
-
-// The first n bytes become 0.
-fn clear(marks: &mut [u8], n: usize)
-    requires { n ≤ length marks.old }
-    ensures { marks.new ≡ cleared n marks.old }
-{
-    let mut i: usize = 0;
-    while i < n {
-        marks[i] = 0;
-        i += 1;
-    }
+    None
 }
 
 // 11 by a root, then 12.
-fn root_refusal(c: BlobCounts, roots: &[u32], marks: &[u8]) -> Outcome
+fn root_refusal(c: BlobCounts, roots: &[u32], marks: &[u8]) -> Result<(), Refusal>
     requires { (c.roots ≤ length roots.now) × (slot_count c ≤ length marks.now) }
     ensures { said_of_outcome result ≡ first (root_rows c (marked c marks.now) roots.now) (gives []) }
 {
     match lowest_bad_root(c, roots, marks) {
-        Place::At(place) => Outcome::Refused(Refusal::IllegalBlob { place }),
-        Place::Nowhere => match lowest_ext_root(c, roots) {
-            Place::At(place) => Outcome::Refused(Refusal::ExtensionRoot { place }),
-            Place::Nowhere => Outcome::Done,
+        Some(place) => Err(Refusal::IllegalBlob { place }),
+        None => match lowest_ext_root(c, roots) {
+            Some(place) => Err(Refusal::ExtensionRoot { place }),
+            None => Ok(()),
         },
     }
 }
 
 // 11, then 12, over bytes that mark nothing yet.
-fn search(c: BlobCounts, s: Shape, nodes: &[u32], roots: &[u32], marks: &mut [u8]) -> Outcome
-    requires { (4 * c.nodes ≤ length nodes.now) × (c.roots ≤ length roots.now) × (slot_count c ≤ length marks.old) × Alike c (marked c marks.old) (filled_after nodes.now 0) }
-    ensures { Searched (record { counts = c; nodes = nodes.now; roots = roots.now }) s result marks.old marks.new }
+fn search(blob: &BlobRef, s: Shape, marks: &mut [u8]) -> Result<(), Refusal>
+    requires { (4 * blob.now.counts.nodes ≤ length blob.now.nodes.now) × (blob.now.counts.roots ≤ length blob.now.roots.now) × (slot_count blob.now.counts ≤ length marks.old) × Alike blob.now.counts (marked blob.now.counts marks.old) (filled_after blob.now.nodes.now 0) }
+    ensures { Searched (lent_blob blob.now) s result marks.old marks.new }
 {
-    match lowest_bad_node(c, s, nodes, &mut marks[..]) {
-        Place::At(place) => Outcome::Refused(Refusal::IllegalBlob { place }),
-        Place::Nowhere => root_refusal(c, roots, &marks[..]),
+    let c = blob.counts;
+    match lowest_bad_node(c, s, blob.nodes, marks) {
+        Some(place) => Err(Refusal::IllegalBlob { place }),
+        None => root_refusal(c, blob.roots, marks),
     }
 }
 
 // 11, then 12, over any bytes; all are 0 afterwards.
-pub fn legal_refusal(
-    c: BlobCounts,
-    s: Shape,
-    nodes: &[u32],
-    roots: &[u32],
-    marks: &mut [u8],
-) -> Outcome
-    requires { (4 * c.nodes ≤ length nodes.now) × (c.roots ≤ length roots.now) × (slot_count c ≤ length marks.old) }
-    ensures { LegalChecked (record { counts = c; nodes = nodes.now; roots = roots.now }) s result marks.old marks.new }
+pub fn legal_refusal(blob: &BlobRef, s: Shape, marks: &mut [u8]) -> Result<(), Refusal>
+    requires { (4 * blob.now.counts.nodes ≤ length blob.now.nodes.now) × (blob.now.counts.roots ≤ length blob.now.roots.now) × (slot_count blob.now.counts ≤ length marks.old) }
+    ensures { LegalChecked (lent_blob blob.now) s result marks.old marks.new }
 {
-    let slots = c.base_slots as usize + c.ext_slots as usize;
-    clear(&mut marks[..], slots);
-    let found = search(c, s, nodes, roots, &mut marks[..]);
-    clear(&mut marks[..], slots);
+    let slots = blob.counts.base_slots as usize + blob.counts.ext_slots as usize;
+    marks[..slots].fill(0);
+    let found = search(blob, s, marks);
+    marks[..slots].fill(0);
     found
 }
 
 // The blob check: 2, 1, 11, 12. It reads no constant, no cell and no uniform.
-pub fn check_blob(
-    c: BlobCounts,
-    s: Shape,
-    nodes: &[u32],
-    roots: &[u32],
-    marks: &mut [u8],
-) -> Outcome
-    ensures { CheckAnswer (record { counts = c; nodes = nodes.now; roots = roots.now }) s result marks.old marks.new }
+pub fn check_blob(blob: &BlobRef, s: Shape, marks: &mut [u8]) -> Result<(), Refusal>
+    ensures { CheckAnswer (lent_blob blob.now) s result marks.old marks.new }
 {
     if over_shape(s) {
-        return Outcome::Refused(Refusal::OverLimit);
+        return Err(Refusal::OverLimit);
     }
-    if short_check(c, nodes.len(), roots.len(), marks.len()) {
-        return Outcome::Refused(Refusal::ShortMemory);
+    if short_check(blob.counts, blob.nodes.len(), blob.roots.len(), marks.len()) {
+        return Err(Refusal::ShortMemory);
     }
-    legal_refusal(c, s, nodes, roots, &mut marks[..])
+    legal_refusal(blob, s, marks)
 }

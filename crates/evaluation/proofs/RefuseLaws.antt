@@ -8,7 +8,7 @@ use lib.Dec.{ltb}
 use borrow.Author.Tests.{ltb-false, lt-ltb, le-ltb}
 use Rattle.laws.proofs.Tests.{or_left, or_right}
 use mathlib.Core.List.{List, [], ◌∷◌, ◌++◌}
-use mathlib.Core.Option.{none}
+use Rattle.std.specs.Prelude.{None}
 use Rattle.laws.specs.Folds.{lowest}
 use Rattle.ir.specs.declared.frame.Shape.{Shape}
 use Rattle.ir.specs.declared.program.Counts.{Counts}
@@ -99,7 +99,7 @@ memory_ok c s limbs l h =
 -- the program and the frame that 7 and 13 let through
 pub record FormOk (c : Counts) (m : Limits) (nodes roots : List ℕ) : Type 0 where
   pub formed : WellFormed c nodes roots
-  pub inside : lowest (node_outside m nodes) c.nodes ≡ none
+  pub inside : lowest (node_outside m nodes) c.nodes ≡ None
 
 pub form_ok_lem : (c : Counts) (m : Limits) (nodes roots : List ℕ) → any_holds (form_rows c m nodes roots) ≡ false → FormOk c m nodes roots
 form_ok_lem c m nodes roots h =

@@ -1,20 +1,17 @@
 -- The three evaluators: their refusals in document 01's order, and what they leave.
 -- Assumes nothing.
-use Rattle.std.specs.Prelude.{Bool, true, false, cond, not, ◌&&◌, ◌||◌, List, [], ◌∷◌, ◌++◌, ◌≡◌, ℕ, ◌*◌, ◌<◌, ◌≤◌, min, eqb, leb, ltb, length, get_or}
-use Rattle.std.proofs.Math.Option.{Option}
+use Rattle.ir.specs.declared.refusal.Refusal.{Refusal}
+use Rattle.std.specs.Prelude.{Bool, true, false, cond, not, ◌&&◌, ◌||◌, List, [], ◌∷◌, ◌++◌, ◌≡◌, ℕ, ◌*◌, ◌<◌, ◌≤◌, min, eqb, leb, ltb, length, get_or, Option, Result, Ok, Err}
 use Rattle.laws.specs.Folds.{lowest}
 use Rattle.extension.specs.Tower.{goldilocks}
 use Rattle.ir.specs.declared.program.Counts.{Counts}
 use Rattle.ir.specs.declared.frame.Shape.{Shape}
-use Rattle.ir.specs.declared.refusal.Outcome.{Outcome}
 use Rattle.ir.specs.Words.{node_at}
 use Rattle.ir.specs.Program.{num_base_of, too_many_nodes, too_many_roots, short_tables, ill_formed}
 use Rattle.ir.specs.Shape.{over_shape}
 use Rattle.ir.specs.Refusals.{Said, Row, row, row_at, first, any_holds, gives, said_of, said_of_outcome}
 use Rattle.values.specs.declared.frame.Limits.{Limits}
 use Rattle.evaluation.specs.declared.frame.Lengths.{Lengths}
-use Rattle.evaluation.specs.declared.evals.Evaluated.{Evaluated}
-use Rattle.evaluation.specs.declared.evals.Evaluated.TheVariants.{Base, Rejected}
 use Rattle.values.specs.Values.{Value, values}
 use Rattle.values.specs.Frame.{Lent, leaves, node_outside, prover_strides, verifier_strides, row_strides, frame_limits, row_limits}
 use Rattle.evaluation.specs.Evals.{base_word, base_evals_of, ext_evals_of}
@@ -133,7 +130,7 @@ lengths nodes roots l room =
 -- ---- what a call leaves: on a refusal every word as it was
 
 -- by the rows of a call: on 0 each root's value and the room, which holds every node's
-pub record Evaluates (rows : List Row) (env : ℕ → Value ℕ (List ℕ)) (n leading count : ℕ) (roots : List ℕ) (r : Outcome) (base base' ext ext' room room' : List ℕ) : Type 0 where
+pub record Evaluates (rows : List Row) (env : ℕ → Value ℕ (List ℕ)) (n leading count : ℕ) (roots : List ℕ) (r : Result (Unit {0}) Refusal) (base base' ext ext' room room' : List ℕ) : Type 0 where
   pub said : said_of_outcome r ≡ first rows (gives [])
   pub base_evals : base' ≡ cond (any_holds rows) base (base_evals_of env roots leading count base)
   pub ext_evals : ext' ≡ cond (any_holds rows) ext (ext_evals_of env roots leading count ext)
@@ -141,37 +138,37 @@ pub record Evaluates (rows : List Row) (env : ℕ → Value ℕ (List ℕ)) (n l
   pub room_holds : any_holds rows ≡ false → RoomHolds env n room room'
 
 -- the plain evaluator's promise
-abbrev pub ProverAnswer : Counts → Shape → (nodes roots : List ℕ) → Lent → Outcome → (base base' ext ext' room room' : List ℕ) → Type 0
+abbrev pub ProverAnswer : Counts → Shape → (nodes roots : List ℕ) → Lent → Result (Unit {0}) Refusal → (base base' ext ext' room room' : List ℕ) → Type 0
 ProverAnswer c s nodes roots l r base base' ext ext' room room' =
     Evaluates (prover_rows c s (lengths nodes roots l room) (length base) (length ext) (frame_limits s) nodes roots)
     (values goldilocks (leaves (prover_strides s) l) nodes c.nodes) c.nodes (num_base_of c) c.roots roots r base base' ext ext' room room'
 
 -- the verifier's: every root goes to ext_evals
-pub record VerifierEvaluates (rows : List Row) (env : ℕ → Value ℕ (List ℕ)) (n count : ℕ) (roots : List ℕ) (r : Outcome) (ext ext' room room' : List ℕ) : Type 0 where
+pub record VerifierEvaluates (rows : List Row) (env : ℕ → Value ℕ (List ℕ)) (n count : ℕ) (roots : List ℕ) (r : Result (Unit {0}) Refusal) (ext ext' room room' : List ℕ) : Type 0 where
   pub said : said_of_outcome r ≡ first rows (gives [])
   pub ext_evals : ext' ≡ cond (any_holds rows) ext (ext_evals_of env roots 0 count ext)
   pub room_kept : any_holds rows ≡ true → room' ≡ room
   pub room_holds : any_holds rows ≡ false → RoomHolds env n room room'
 
 -- the verifier's promise
-abbrev pub VerifierAnswer : Counts → Shape → (nodes roots : List ℕ) → Lent → Outcome → (ext ext' room room' : List ℕ) → Type 0
+abbrev pub VerifierAnswer : Counts → Shape → (nodes roots : List ℕ) → Lent → Result (Unit {0}) Refusal → (ext ext' room room' : List ℕ) → Type 0
 VerifierAnswer c s nodes roots l r ext ext' room room' =
     VerifierEvaluates (verifier_rows c s (lengths nodes roots l room) (length ext) (frame_limits s) nodes roots)
     (values goldilocks (leaves (verifier_strides s) l) nodes c.nodes) c.nodes c.roots roots r ext ext' room room'
 
 -- one row: on 0 the asked constraint's base value
-abbrev pub said_of_evaluated : Evaluated → Said
-said_of_evaluated (Base v) = gives (v ∷ [])
-said_of_evaluated (Rejected r) = said_of r
+abbrev pub said_of_evaluated : Result ℕ Refusal → Said
+said_of_evaluated (Ok v) = gives (v ∷ [])
+said_of_evaluated (Err r) = said_of r
 
 -- by the rows of a call: on 0 the value, and the room
-pub record RowEvaluates (rows : List Row) (env : ℕ → Value ℕ (List ℕ)) (n asked : ℕ) (roots : List ℕ) (r : Evaluated) (room room' : List ℕ) : Type 0 where
+pub record RowEvaluates (rows : List Row) (env : ℕ → Value ℕ (List ℕ)) (n asked : ℕ) (roots : List ℕ) (r : Result ℕ Refusal) (room room' : List ℕ) : Type 0 where
   pub said : said_of_evaluated r ≡ first rows (gives (base_word (env (get_or roots asked 0)) ∷ []))
   pub room_kept : any_holds rows ≡ true → room' ≡ room
   pub room_holds : any_holds rows ≡ false → RoomHolds env n room room'
 
 -- the promise of one row
-abbrev pub RowAnswer : Counts → ℕ → ℕ → (nodes roots : List ℕ) → Lent → Evaluated → (room room' : List ℕ) → Type 0
+abbrev pub RowAnswer : Counts → ℕ → ℕ → (nodes roots : List ℕ) → Lent → Result ℕ Refusal → (room room' : List ℕ) → Type 0
 RowAnswer c width asked nodes roots l r room room' =
     RowEvaluates (row_rows c width asked (lengths nodes roots l room) (row_limits width) nodes roots)
     (values goldilocks (leaves row_strides l) nodes c.nodes) c.nodes asked roots r room room'

@@ -4,7 +4,6 @@ ghost use Rattle.evaluation.specs.Writes.{RootIn, WritesRoot, RootsIn, WritesRoo
 
 use extension::extensions_goldilocks::Ext;
 use field::goldilocks::Fp;
-use ir::refusal::Refusal;
 
 // Root c below num_base goes to base_evals, every other to ext_evals at its own number.
 fn write_root(
@@ -23,10 +22,11 @@ fn write_root(
         bases[c] = Fp::reduce(room[at]);
     } else {
         let v = Ext::load(room, at).reduce();
-        v.store(&mut exts[..], 3 * c);
+        v.store(exts, 3 * c);
     }
 }
 
+// Lent roots may be more than count. The one for slots reads by class and shares the loop alone.
 pub fn write_roots(
     count: usize,
     leading: usize,
@@ -38,17 +38,8 @@ pub fn write_roots(
     requires { RootsIn count leading roots.now (length room.now) (length bases.old) (length exts.old) }
     ensures { WritesRoots count leading roots.now room.now bases.old bases.new exts.old exts.new }
 {
-    let mut c: usize = 0;
-    while c < count {
+    for c in 0..count {
         let root = roots[c] as usize;
-        write_root(c, leading, root, room, &mut bases[..], &mut exts[..]);
-        c += 1;
+        write_root(c, leading, root, room, bases, exts);
     }
-}
-
-// A base value, or a refusal.
-#[derive(Clone, Copy)]
-pub enum Evaluated {
-    Base(u64),
-    Rejected(Refusal),
 }

@@ -1,3 +1,2 @@
 -- What callers and later requests cite of the field.
 pub mod Laws
-mod Words

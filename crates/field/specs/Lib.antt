@@ -1,3 +1,2 @@
 -- What the contracts of the field cite.
 pub mod Base
-pub mod Wide

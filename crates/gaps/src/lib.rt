@@ -1,5 +1,4 @@
 // The report of constraints that have no root.
 #![tactic(auto)]
 
-pub mod answers;
 pub mod gaps;

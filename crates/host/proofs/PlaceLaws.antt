@@ -3,7 +3,7 @@
 -- Assumes nothing.
 use mathlib.Core.Bool.{Bool, true, false, cond}
 use mathlib.Core.List.{List, [], ◌∷◌, ◌++◌}
-use mathlib.Core.Option.{Option, none, some}
+use Rattle.std.specs.Prelude.{Option, None, Some}
 use mathlib.Core.Path.{◌≡◌, ap, ◌∙◌}
 use Prim.Native.Nat.{ℕ, zero, suc, ◌/◌, ◌%◌, ◌<◌, ◌≤◌}
 use native.Mathlib.Nat.{mod-eq_of_lt}
@@ -72,16 +72,16 @@ first_fits (r ∷ rs) vs f =
 -- ---- the places that are named
 
 found_or : (a b : Option ℕ) → found_at a < places → found_at b < places → found_at (or_else a b) < places
-found_or none b p q = q
-found_or (some i) b p q = p
+found_or None b p q = q
+found_or (Some i) b p q = p
 
 -- a place that is found is below the count
 found_low : (t : ℕ → Bool) (n : ℕ) → n ≤ 4294967295 → found_at (lowest t n) < places
 unfolding lowest
 found_low t zero l = lit< tt
-found_low t (suc n) l = found_or (lowest t n) (cond (t n) (some n) none) (found_low t n (omega arith)) (here (t n))
+found_low t (suc n) l = found_or (lowest t n) (cond (t n) (Some n) None) (found_low t n (omega arith)) (here (t n))
   where
-    here : (b : Bool) → found_at (cond b (some n) none) < places
+    here : (b : Bool) → found_at (cond b (Some n) None) < places
     here true = omega arith
     here false = lit< tt
 

@@ -7,9 +7,11 @@ ghost use Rattle.walk.specs.Walk.{WalkAnswer};
 ghost use Rattle.host_answer.specs.Called.{Called};
 ghost use Rattle.host_answer.specs.Numbers.{shape, blob_counts, blob};
 
+use blob_rules::blob::BlobRef;
 use device::check::check_blob;
 use host_answer::answer::{coded_outcome, ext_of};
 use host_answer::numbers::{blob_counts_of, shape_of};
+use values::frame::Inputs;
 use walk::walk::walk;
 
 #[unsafe(no_mangle)]
@@ -32,9 +34,13 @@ pub extern "C" fn cir_check_blob(
 ) -> u64
     ensures { Called (λ o. CheckAnswer (blob (blob_counts n b x r leading bs xs) nodes.now roots.now) (shape steps width auxes rap powers) o marks.old marks.new) result }
 {
-    let c = blob_counts_of(n, b, x, r, leading, bs, xs);
+    let blob = BlobRef {
+        counts: blob_counts_of(n, b, x, r, leading, bs, xs),
+        nodes,
+        roots,
+    };
     let s = shape_of(steps, width, auxes, rap, powers);
-    coded_outcome(check_blob(c, s, nodes, roots, marks))
+    coded_outcome(check_blob(&blob, s, marks))
 }
 
 #[unsafe(no_mangle)]
@@ -69,21 +75,20 @@ pub extern "C" fn cir_walk(
 ) -> u64
     ensures { Called (λ o. WalkAnswer (blob (blob_counts n b x r leading bs xs) nodes.now roots.now) (shape steps width auxes rap powers) (lent bases.now exts.now main.now aux.now challenges.now alphas.now (o0 ∷ o1 ∷ o2 ∷ [])) o base.old base.new ext.old ext.new marks.old marks.new slots.old slots.new) result }
 {
-    coded_outcome(walk(
-        blob_counts_of(n, b, x, r, leading, bs, xs),
-        shape_of(steps, width, auxes, rap, powers),
-        ext_of(o0, o1, o2),
+    let blob = BlobRef {
+        counts: blob_counts_of(n, b, x, r, leading, bs, xs),
         nodes,
+        roots,
+    };
+    let inputs = Inputs {
         bases,
         exts,
-        roots,
         main,
         aux,
         challenges,
         alphas,
-        base,
-        ext,
-        marks,
-        slots,
-    ))
+        offset: ext_of(o0, o1, o2),
+    };
+    let s = shape_of(steps, width, auxes, rap, powers);
+    coded_outcome(walk(&blob, s, &inputs, base, ext, marks, slots))
 }

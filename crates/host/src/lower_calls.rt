@@ -6,26 +6,34 @@ ghost use Rattle.host_answer.specs.Answer.{answer_of, value_on_done};
 ghost use Rattle.host_answer.specs.Numbers.{counts};
 ghost use Rattle.host.specs.LowerCalls.{CalledLower};
 
+use blob_rules::blob::{BlobCounts, TableRooms};
 use host_answer::answer::coded_refusal;
 use host_answer::numbers::counts_of;
+use ir::program::ProgramRef;
+use ir::refusal::Refusal;
 use lower::lower::lower;
-use lower_parts::parts::Lowering;
+use lower_parts::parts::Lists;
 
 // Apart, so that the call that lends so much memory has one end.
-fn coded_lowering(told: Lowering, count: &mut u32, bs: &mut u32, xs: &mut u32) -> u64
+fn coded_lowering(
+    told: Result<BlobCounts, Refusal>,
+    count: &mut u32,
+    bs: &mut u32,
+    xs: &mut u32,
+) -> u64
     ensures value { result ≡ answer_of (said_of_lowering told) }
     ensures count_after { count.new ≡ value_on_done (said_of_lowering told) 0 count.old }
     ensures bs_after { bs.new ≡ value_on_done (said_of_lowering told) 5 bs.old }
     ensures xs_after { xs.new ≡ value_on_done (said_of_lowering told) 6 xs.old }
 {
     match told {
-        Lowering::Lowered(k) => {
+        Ok(k) => {
             *count = k.nodes;
             *bs = k.base_slots;
             *xs = k.ext_slots;
             0
         }
-        Lowering::Refused(why) => coded_refusal(why),
+        Err(why) => coded_refusal(why),
     }
 }
 
@@ -56,9 +64,26 @@ pub extern "C" fn cir_lower(
 ) -> u64
     ensures { CalledLower (λ o. LowerAnswer (record { counts = counts n b x r leading; nodes = nodes.now; bases = bases.now; exts = exts.now; roots = roots.now }) (record { used = used.old; last = last.old; root = root.old; slot = slot.old; free = free.old }) (record { nodes = blob.old; bases = narrow.old; exts = wide.old; roots = ends.old }) o (record { used = used.new; last = last.new; root = root.new; slot = slot.new; free = free.new }) (record { nodes = blob.new; bases = narrow.new; exts = wide.new; roots = ends.new })) result count.old count.new bs.old bs.new xs.old xs.new }
 {
-    let c = counts_of(n, b, x, r, leading);
-    let told = lower(
-        c, nodes, bases, exts, roots, used, last, root, slot, free, blob, narrow, wide, ends,
-    );
+    let program = ProgramRef {
+        counts: counts_of(n, b, x, r, leading),
+        nodes,
+        bases,
+        exts,
+        roots,
+    };
+    let mut lists = Lists {
+        used,
+        last_use: last,
+        is_root: root,
+        slot_of: slot,
+        free,
+    };
+    let mut out = TableRooms {
+        nodes: blob,
+        bases: narrow,
+        exts: wide,
+        roots: ends,
+    };
+    let told = lower(&program, &mut lists, &mut out);
     coded_lowering(told, count, bs, xs)
 }

@@ -10,12 +10,12 @@ ghost use Rattle.host.specs.ProgramCalls.{CalledBase, CalledReads};
 ghost use Rattle.host_answer.specs.Called.{Called};
 ghost use Rattle.host_answer.specs.Numbers.{counts, shape};
 
-use evaluation::evals::Evaluated;
 use host_answer::answer::{coded_outcome, coded_refusal, ext_of};
 use host_answer::numbers::{counts_of, shape_of};
 use interp::interp::{eval_program, eval_program_base, eval_program_verifier};
 use ir::program::check_program;
-use reads::reads::{Columns, next_row_trace_reads};
+use reads::reads::next_row_trace_reads;
+use values::frame::Inputs;
 
 #[unsafe(no_mangle)]
 pub extern "C" fn cir_check_program(
@@ -64,18 +64,21 @@ pub extern "C" fn cir_eval_program(
 ) -> u64
     ensures { Called (λ o. ProverAnswer (counts n b x r leading) (shape steps width auxes rap powers) nodes.now roots.now (lent bases.now exts.now main.now aux.now challenges.now alphas.now (o0 ∷ o1 ∷ o2 ∷ [])) o base.old base.new ext.old ext.new room.old room.new) result }
 {
-    coded_outcome(eval_program(
-        counts_of(n, b, x, r, leading),
-        shape_of(steps, width, auxes, rap, powers),
-        ext_of(o0, o1, o2),
-        nodes,
+    let inputs = Inputs {
         bases,
         exts,
-        roots,
         main,
         aux,
         challenges,
         alphas,
+        offset: ext_of(o0, o1, o2),
+    };
+    coded_outcome(eval_program(
+        counts_of(n, b, x, r, leading),
+        shape_of(steps, width, auxes, rap, powers),
+        &inputs,
+        nodes,
+        roots,
         base,
         ext,
         room,
@@ -110,18 +113,21 @@ pub extern "C" fn cir_eval_program_verifier(
 ) -> u64
     ensures { Called (λ o. VerifierAnswer (counts n b x r leading) (shape steps width auxes rap powers) nodes.now roots.now (lent bases.now exts.now main.now aux.now challenges.now alphas.now (o0 ∷ o1 ∷ o2 ∷ [])) o ext.old ext.new room.old room.new) result }
 {
-    coded_outcome(eval_program_verifier(
-        counts_of(n, b, x, r, leading),
-        shape_of(steps, width, auxes, rap, powers),
-        ext_of(o0, o1, o2),
-        nodes,
+    let inputs = Inputs {
         bases,
         exts,
-        roots,
         main,
         aux,
         challenges,
         alphas,
+        offset: ext_of(o0, o1, o2),
+    };
+    coded_outcome(eval_program_verifier(
+        counts_of(n, b, x, r, leading),
+        shape_of(steps, width, auxes, rap, powers),
+        &inputs,
+        nodes,
+        roots,
         ext,
         room,
     ))
@@ -148,11 +154,11 @@ pub extern "C" fn cir_eval_program_base(
 {
     let c = counts_of(n, b, x, r, leading);
     match eval_program_base(c, width, asked, nodes, bases, exts, roots, row, room) {
-        Evaluated::Base(v) => {
+        Ok(v) => {
             *value = v;
             0
         }
-        Evaluated::Rejected(why) => coded_refusal(why),
+        Err(why) => coded_refusal(why),
     }
 }
 
@@ -175,10 +181,10 @@ pub extern "C" fn cir_next_row_trace_reads(
 {
     let c = counts_of(n, b, x, r, leading);
     match next_row_trace_reads(c, width, nodes, bases, exts, roots, out) {
-        Columns::Listed { count: listed } => {
+        Ok(listed) => {
             *count = listed as u64;
             0
         }
-        Columns::Refused(why) => coded_refusal(why),
+        Err(why) => coded_refusal(why),
     }
 }

@@ -4,7 +4,7 @@ ghost use Rattle.ir.specs.Refusals.{said_of, said_of_outcome};
 ghost use Rattle.host_answer.specs.Answer.{answer_of};
 
 use extension::extensions_goldilocks::Ext;
-use ir::refusal::{Outcome, Refusal};
+use ir::refusal::Refusal;
 
 // A place fits: no table has more than 2^32 entries.
 fn coded(number: u8, place: usize) -> u64
@@ -35,12 +35,12 @@ pub fn coded_refusal(why: Refusal) -> u64
     }
 }
 
-pub fn coded_outcome(o: Outcome) -> u64
+pub fn coded_outcome(o: Result<(), Refusal>) -> u64
     ensures { result ≡ answer_of (said_of_outcome o) }
 {
     match o {
-        Outcome::Done => 0,
-        Outcome::Refused(why) => coded_refusal(why),
+        Ok(()) => 0,
+        Err(why) => coded_refusal(why),
     }
 }
 

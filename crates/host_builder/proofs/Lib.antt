@@ -1,3 +1,2 @@
 -- The proofs of the builder's calls.
-pub mod BuilderCallLaws
 pub mod BuilderSingle

@@ -12,9 +12,10 @@ ghost use Rattle.builder.specs.Roots.{emit_of};
 ghost use Rattle.host_builder.specs.BuilderCalls.{started_of, HandsNode, HandsConst, HandsRoot, HandsGaps};
 ghost use Rattle.host_handle.specs.Handles.{handle};
 
-use builder::ir_builder::{Emitted, Expr, IrBuilder};
+use builder::ir_builder::{Expr, IrBuilder};
 use builder_call::call::{Call, perform};
-use gaps::gaps::{Gaps, gap_report};
+use field::goldilocks::Fp;
+use gaps::gaps::gap_report;
 use host_answer::answer::{coded_refusal, ext_of};
 use host_handle::handles::{after, builder_of, hand};
 
@@ -35,6 +36,7 @@ fn node_call(
     hand(made, id, dim)
 }
 
+// What C lends to a call that makes a constant, in the order of the exported functions.
 fn const_call(
     n: &mut usize,
     b: &mut usize,
@@ -176,12 +178,7 @@ pub extern "C" fn cir_builder_const_signed(
 ) -> u64
     ensures { HandsConst (const_of start_of (table nodes.old places.old n.old) bases.old b.old (signed v)) (table nodes.new places.new n.new) bases.new b.new result id.old id.new dim.old dim.new }
 {
-    let was = builder_of(*n, *b, 0, 0);
-    let made = was.const_signed(nodes, places, bases, v);
-    let counts = after(was, made);
-    *n = counts.nodes;
-    *b = counts.bases;
-    hand(made, id, dim)
+    const_call(n, b, nodes, places, bases, Fp::from_i64(v), id, dim)
 }
 
 #[unsafe(no_mangle)]
@@ -325,11 +322,11 @@ pub extern "C" fn cir_builder_emit(
 {
     let was = builder_of(n, 0, 0, *k);
     match was.emit(nodes, roots, c, Expr { id, dim }) {
-        Emitted::Rooted(builder) => {
+        Ok(builder) => {
             *k = builder.roots;
             0
         }
-        Emitted::Refused(why) => coded_refusal(why),
+        Err(why) => coded_refusal(why),
     }
 }
 
@@ -338,10 +335,10 @@ pub extern "C" fn cir_builder_gaps(k: usize, roots: &[u32], out: &mut [u64], cou
     ensures { HandsGaps roots.now k out.old out.new result count.old count.new }
 {
     match gap_report(builder_of(0, 0, 0, k), roots, out) {
-        Gaps::Listed { count: listed } => {
+        Ok(listed) => {
             *count = listed as u64;
             0
         }
-        Gaps::Refused(why) => coded_refusal(why),
+        Err(why) => coded_refusal(why),
     }
 }

@@ -13,16 +13,16 @@ ghost use Rattle.builder_bytes.specs.Promises.{held_table, GivesBytes, InternsBy
 ghost use Rattle.host_handle.specs.Handles.{handle, lent_counts};
 ghost use Rattle.host_builder_bytes.specs.BuilderByteCalls.{HandsNodeBytes, HandsConstBytes, HandsRootBytes, HandsGapsBytes};
 
-use builder::ir_builder::{Emitted, Expr};
+use builder::ir_builder::Expr;
 use builder_bytes::calls::call_bytes;
 use builder_bytes::constants::{const_base_bytes, const_ext_bytes, new_bytes};
 use builder_bytes::roots::{emit_bytes, gap_report_bytes};
 use builder_call::call::Call;
 use field::goldilocks::Fp;
-use gaps::gaps::Gaps;
 use host_answer::answer::{coded_refusal, ext_of};
 use host_handle::handles::{after, builder_of, hand};
 
+// What C lends to a call that makes a node, in the order of the exported functions.
 fn node_bytes(
     n: &mut usize,
     nodes: &mut [u8],
@@ -41,6 +41,7 @@ fn node_bytes(
     hand(made, id, dim)
 }
 
+// What C lends to a call that makes a constant, in the order of the exported functions.
 fn const_bytes(
     n: &mut usize,
     b: &mut usize,
@@ -377,11 +378,11 @@ pub extern "C" fn cir_builder_emit_bytes(
 {
     let was = builder_of(n, 0, 0, *k);
     match emit_bytes(was, nodes, roots, nw, tw, c, Expr { id, dim }) {
-        Emitted::Rooted(builder) => {
+        Ok(builder) => {
             *k = builder.roots;
             0
         }
-        Emitted::Refused(why) => coded_refusal(why),
+        Err(why) => coded_refusal(why),
     }
 }
 
@@ -397,10 +398,10 @@ pub extern "C" fn cir_builder_gaps_bytes(
     ensures { HandsGapsBytes (λ o. GapsBytes k (lent roots.now tw.old) (lent out.old ow.old) o (lent roots.now tw.new) (lent out.new ow.new)) result count.old count.new }
 {
     match gap_report_bytes(builder_of(0, 0, 0, k), roots, out, tw, ow) {
-        Gaps::Listed { count: listed } => {
+        Ok(listed) => {
             *count = listed as u64;
             0
         }
-        Gaps::Refused(why) => coded_refusal(why),
+        Err(why) => coded_refusal(why),
     }
 }

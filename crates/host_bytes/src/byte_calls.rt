@@ -10,12 +10,14 @@ ghost use Rattle.host_answer.specs.Called.{Called};
 ghost use Rattle.host_answer.specs.Numbers.{counts, shape};
 ghost use Rattle.host_bytes.specs.ByteCalls.{CalledStored};
 
-use byte_walk::walking::walk_stored;
+use blob_rules::blob::TableRooms;
+use byte_walk::walking::{FrameBytes, walk_stored};
 use bytewise::checking::check_stored;
-use bytewise::lowering::lower_stored;
+use bytewise::lowering::{TableBytes, lower_stored};
 use host_answer::answer::{coded_outcome, coded_refusal, ext_of};
 use host_answer::numbers::{counts_of, shape_of};
-use stored::write::Stored;
+use ir::refusal::Refusal;
+use lower_parts::parts::Lists;
 
 #[unsafe(no_mangle)]
 pub extern "C" fn cir_check_stored(
@@ -34,20 +36,26 @@ pub extern "C" fn cir_check_stored(
     ensures { Called (λ o. CheckStored (shape steps width auxes rap powers) file.now (record { nodes = nodes.old; bases = bases.old; exts = exts.old; roots = roots.old }) marks.old o (record { nodes = nodes.new; bases = bases.new; exts = exts.new; roots = roots.new }) marks.new) result }
 {
     let s = shape_of(steps, width, auxes, rap, powers);
-    coded_outcome(check_stored(s, file, nodes, bases, exts, roots, marks))
+    let mut rooms = TableRooms {
+        nodes,
+        bases,
+        exts,
+        roots,
+    };
+    coded_outcome(check_stored(s, file, &mut rooms, marks))
 }
 
 // Apart, so that the call that lends so much memory has one end. The file's length is written on 0 alone.
-fn coded_stored(told: Stored, length: &mut u64) -> u64
+fn coded_stored(told: Result<usize, Refusal>, length: &mut u64) -> u64
     ensures value { result ≡ answer_of (said_of_stored told) }
     ensures length_after { length.new ≡ value_on_done (said_of_stored told) 0 length.old }
 {
     match told {
-        Stored::Written { bytes } => {
+        Ok(bytes) => {
             *length = bytes as u64;
             0
         }
-        Stored::Refused(why) => coded_refusal(why),
+        Err(why) => coded_refusal(why),
     }
 }
 
@@ -83,10 +91,32 @@ pub extern "C" fn cir_lower_stored(
     ensures { CalledStored (λ o. LowerStored (counts n b x r leading) (record { nodes = nodes.now; bases = bases.now; exts = exts.now; roots = roots.now }) (record { nodes = nw.old; bases = bw.old; exts = xw.old; roots = tw.old }) (record { used = used.old; last = last.old; root = root.old; slot = slot.old; free = free.old }) (record { nodes = blob.old; bases = narrow.old; exts = wide.old; roots = ends.old }) file.old o (record { nodes = nw.new; bases = bw.new; exts = xw.new; roots = tw.new }) (record { used = used.new; last = last.new; root = root.new; slot = slot.new; free = free.new }) (record { nodes = blob.new; bases = narrow.new; exts = wide.new; roots = ends.new }) file.new) result length.old length.new }
 {
     let c = counts_of(n, b, x, r, leading);
-    let told = lower_stored(
-        c, nodes, bases, exts, roots, nw, bw, xw, tw, used, last, root, slot, free, blob, narrow,
-        wide, ends, file,
-    );
+    let tables = TableBytes {
+        nodes,
+        bases,
+        exts,
+        roots,
+    };
+    let mut rooms = TableRooms {
+        nodes: nw,
+        bases: bw,
+        exts: xw,
+        roots: tw,
+    };
+    let mut lists = Lists {
+        used,
+        last_use: last,
+        is_root: root,
+        slot_of: slot,
+        free,
+    };
+    let mut out = TableRooms {
+        nodes: blob,
+        bases: narrow,
+        exts: wide,
+        roots: ends,
+    };
+    let told = lower_stored(c, &tables, &mut rooms, &mut lists, &mut out, file);
     coded_stored(told, length)
 }
 
@@ -124,14 +154,17 @@ pub extern "C" fn cir_walk_stored(
 ) -> u64
     ensures { Called (λ o. WalkStored (shape steps width auxes rap powers) (o0 ∷ o1 ∷ o2 ∷ []) file.now (record { nodes = nodes.old; bases = bases.old; exts = exts.old; roots = roots.old }) (record { main = main.now; aux = aux.now; challenges = challenges.now; alphas = alphas.now }) (record { evals = record { base = base.old; ext = ext.old }; frame_rooms = record { main = mw.old; aux = aw.old; challenges = cw.old; alphas = pw.old }; eval_rooms = record { base = bw.old; ext = xw.old }; marks = marks.old; slots = slots.old }) o (record { nodes = nodes.new; bases = bases.new; exts = exts.new; roots = roots.new }) (record { evals = record { base = base.new; ext = ext.new }; frame_rooms = record { main = mw.new; aux = aw.new; challenges = cw.new; alphas = pw.new }; eval_rooms = record { base = bw.new; ext = xw.new }; marks = marks.new; slots = slots.new })) result }
 {
-    coded_outcome(walk_stored(
-        shape_of(steps, width, auxes, rap, powers),
-        ext_of(o0, o1, o2),
-        file,
+    let frame = FrameBytes {
         main,
         aux,
         challenges,
         alphas,
+    };
+    coded_outcome(walk_stored(
+        shape_of(steps, width, auxes, rap, powers),
+        ext_of(o0, o1, o2),
+        file,
+        &frame,
         base,
         ext,
         nodes,

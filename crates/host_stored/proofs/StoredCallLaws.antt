@@ -1,54 +1,40 @@
 -- The calls on form A, done and refused; and each leaves one answer and one memory.
 -- Assumes nothing.
+use Rattle.std.specs.Prelude.{Result, Ok}
 use mathlib.Core.List.{List, [], ◌∷◌}
-use mathlib.Core.Path.{◌≡◌, sym, ap, ◌∙◌}
+use mathlib.Core.Path.{◌≡◌, sym, ◌∙◌}
 use Prim.Native.Nat.{ℕ, ◌<◌, ◌≤◌}
 use native.Mathlib.Omega.{arith}
 use lib.ListN.{length}
-use borrow.Author.Tests.{ne_eqb, lt-ltb, le-ltb}
+use borrow.Author.Tests.{lt-ltb, le-ltb}
 use Rattle.ir.specs.declared.refusal.Refusal.{Refusal}
 use Rattle.ir.specs.declared.refusal.Refusal.TheVariants.{ShortOutput}
 use Rattle.ir.specs.Refusals.{gives, said_of}
-use Rattle.ir.proofs.RefusalLaws.{refusal_number}
 use Rattle.blob_rules.specs.declared.blob.BlobCounts.{BlobCounts}
-use Rattle.stored.specs.declared.write.Stored.{Stored}
-use Rattle.stored.specs.declared.read.ReadStored.{ReadStored}
 use Rattle.stored_parts.specs.Form.{Tables}
-use Rattle.stored.specs.Answer.{said_of_stored, WriteAnswer, said_of_read, ReadAnswer}
+use Rattle.stored.specs.Answer.{ReadAnswer}
 use Rattle.listing.specs.Listing.{blob_list, Puts}
 use Rattle.stored.proofs.AnswerLaws.{read_ok}
 use Rattle.host_answer.specs.Answer.{answer_of}
-use Rattle.host_stored.specs.StoredCalls.{WritesFile, ReadsFile, list_said, ListsFile}
+use Rattle.host_stored.specs.StoredCalls.{tables, WritesFile, ReadsFile, list_said, ListsFile}
 
 -- ---- writing
-
-module _ {c : BlobCounts} {t : Tables} {file file' : List ℕ} {o : Stored} (p : WriteAnswer c t file o file') {old : ℕ} where
-  pub writes : {bytes : ℕ} → o ≡ Stored.Written bytes → WritesFile c t file old 0 file' bytes
-  writes {bytes} e =
-      let s = sym p.said ∙ ap said_of_stored e in
-      record { answered = rw s; wrote = p.wrote; measured = rw s }
-
-  pub writes_not : {why : Refusal} {a : ℕ} → o ≡ Stored.Refused why → a ≡ answer_of (said_of why) → WritesFile c t file old a file' old
-  writes_not {why} e q =
-      let s = sym p.said ∙ ap said_of_stored e in
-      record { answered = rw (s, q); wrote = p.wrote; measured = rw (s, ne_eqb (said_of why).number 0 (refusal_number why)) }
 
 pub cir_write_stored_single : {c : BlobCounts} {t : Tables} {file f f' : List ℕ} {old a a' n n' : ℕ} → WritesFile c t file old a f n → WritesFile c t file old a' f' n' → (a ≡ a') × (f ≡ f') × (n ≡ n')
 cir_write_stored_single p q = (p.answered ∙ sym q.answered, p.wrote ∙ sym q.wrote, p.measured ∙ sym q.measured)
 
 -- ---- reading
 
-module _ {file : List ℕ} {rooms rooms' : Tables} {o : ReadStored} (p : ReadAnswer file rooms o rooms') {old : BlobCounts} where
-  pub reads : {k : BlobCounts} → o ≡ ReadStored.Read k → ReadsFile file rooms old 0 rooms' k
+module _ {file : List ℕ} {rooms rooms' : Tables} {o : Result BlobCounts Refusal} (p : ReadAnswer file rooms o rooms') {old : BlobCounts} where
+  pub reads : {k : BlobCounts} → o ≡ Ok k → ReadsFile file rooms old 0 rooms' k
   reads {k} e =
-      let q : ReadAnswer file rooms (ReadStored.Read k) rooms' = rw e at p in
+      let q : ReadAnswer file rooms (Ok k) rooms' = rw e at p in
       let s = sym q.said in
       record { answered = rw s; wrote = p.wrote; counted = rw s (read_ok file rooms q).counts_are }
 
-  pub reads_not : {why : Refusal} {a : ℕ} → o ≡ ReadStored.Refused why → a ≡ answer_of (said_of why) → ReadsFile file rooms old a rooms' old
-  reads_not {why} e q =
-      let s = sym p.said ∙ ap said_of_read e in
-      record { answered = rw (s, q); wrote = p.wrote; counted = rw (s, ne_eqb (said_of why).number 0 (refusal_number why)) }
+-- the same, told of rooms that are the same one by one
+pub told : {file : List ℕ} {rooms : Tables} {old new : BlobCounts} {a : ℕ} (r : Tables) (n b x t : List ℕ) → n ≡ r.nodes → b ≡ r.bases → x ≡ r.exts → t ≡ r.roots → ReadsFile file rooms old a r new → ReadsFile file rooms old a (tables n b x t) new
+told r n b x t e f g h p = rw (e, f, g, h) p
 
 pub cir_read_stored_single : {file : List ℕ} {rooms r r' : Tables} {old k k' : BlobCounts} {a a' : ℕ} → ReadsFile file rooms old a r k → ReadsFile file rooms old a' r' k' → (a ≡ a') × (r ≡ r') × (k ≡ k')
 cir_read_stored_single p q = (p.answered ∙ sym q.answered, p.wrote ∙ sym q.wrote, p.counted ∙ sym q.counted)

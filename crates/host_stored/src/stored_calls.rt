@@ -2,12 +2,12 @@
 ghost use Rattle.host_answer.specs.Numbers.{blob_counts};
 ghost use Rattle.host_stored.specs.StoredCalls.{tables, WritesFile, ReadsFile, ListsFile};
 
-use blob_rules::blob::BlobCounts;
+use blob_rules::blob::{BlobCounts, TableRooms};
 use host_answer::answer::coded_refusal;
 use ir::refusal::Refusal;
 use listing::listing::list_stored;
-use stored::read::{ReadStored, read_stored};
-use stored::write::{Stored, write_stored};
+use stored::read::read_stored;
+use stored::write::{TablesRef, write_stored};
 
 // The listing of the longest file fits.
 const LISTING_ROOM: usize = 524288;
@@ -40,12 +40,18 @@ pub extern "C" fn cir_write_stored(
         base_slots: bs,
         ext_slots: xs,
     };
-    match write_stored(c, nodes, bases, exts, roots, file) {
-        Stored::Written { bytes } => {
+    let tables = TablesRef {
+        nodes,
+        bases,
+        exts,
+        roots,
+    };
+    match write_stored(c, &tables, file) {
+        Ok(bytes) => {
             *length = bytes as u64;
             0
         }
-        Stored::Refused(why) => coded_refusal(why),
+        Err(why) => coded_refusal(why),
     }
 }
 
@@ -67,8 +73,14 @@ pub extern "C" fn cir_read_stored(
 ) -> u64
     ensures { ReadsFile file.now (tables nodes.old bases.old exts.old roots.old) (blob_counts n.old b.old x.old r.old leading.old bs.old xs.old) result (tables nodes.new bases.new exts.new roots.new) (blob_counts n.new b.new x.new r.new leading.new bs.new xs.new) }
 {
-    match read_stored(file, nodes, bases, exts, roots) {
-        ReadStored::Read(c) => {
+    let mut rooms = TableRooms {
+        nodes,
+        bases,
+        exts,
+        roots,
+    };
+    match read_stored(file, &mut rooms) {
+        Ok(c) => {
             *n = c.nodes;
             *b = c.bases;
             *x = c.exts;
@@ -78,7 +90,7 @@ pub extern "C" fn cir_read_stored(
             *xs = c.ext_slots;
             0
         }
-        ReadStored::Refused(why) => coded_refusal(why),
+        Err(why) => coded_refusal(why),
     }
 }
 

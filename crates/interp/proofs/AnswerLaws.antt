@@ -1,5 +1,6 @@
 -- From the refusals' answer and the evaluation to an evaluator's promise.
 -- Assumes nothing.
+use Rattle.std.specs.Prelude.{Result, Ok, Err}
 use Rattle.evaluation.proofs.RefuseLaws.{any_append, MemoryOk, memory_ok, FormOk, form_ok_lem}
 use mathlib.Core.Bool.{true, false, ◌&&◌}
 use mathlib.Core.List.{List, [], ◌∷◌, ◌++◌}
@@ -13,8 +14,6 @@ use Rattle.laws.proofs.Tests.{clash, or_left, or_right}
 use Rattle.ir.specs.declared.program.Counts.{Counts}
 use Rattle.ir.specs.declared.frame.Shape.{Shape}
 use Rattle.ir.specs.declared.refusal.Refusal.{Refusal}
-use Rattle.ir.specs.declared.refusal.Outcome.{Outcome}
-use Rattle.ir.specs.declared.refusal.Outcome.TheVariants.{Done, Refused}
 use Rattle.ir.specs.Program.{num_base_of}
 use Rattle.ir.specs.Refusals.{Row, row_at, gives, said_of, said_of_outcome, first, any_holds}
 use Rattle.ir.proofs.RefusalLaws.{numbered, done_rows, loud_rows, first_any, first_none}
@@ -25,7 +24,6 @@ use Rattle.values.specs.Values.{Value}
 use Rattle.values.specs.Frame.{Lent, prover_strides, verifier_strides, row_strides, frame_limits, row_limits}
 use Rattle.values.specs.Operations.{Ready}
 use Rattle.field.specs.Base.{Least}
-use Rattle.evaluation.specs.declared.evals.Evaluated.TheVariants.{Base, Rejected}
 use Rattle.evaluation.specs.Evals.{base_word}
 use Rattle.values.specs.Room.{RoomHolds}
 use Rattle.evaluation.specs.Writes.{RootsIn, Completes}
@@ -36,17 +34,17 @@ use Rattle.values.proofs.ReadyLaws.{ready, prover_fits, verifier_fits, row_fits}
 -- ---- the promise, refused and done
 
 -- no row holds
-pub answer_quiet : (rows : List Row) {env : ℕ → Value ℕ (List ℕ)} {n leading count : ℕ} {roots base base' ext ext' room room' : List ℕ} → any_holds rows ≡ false → Completes env n leading count roots base base' ext ext' room room' → Evaluates rows env n leading count roots Done base base' ext ext' room room'
+pub answer_quiet : (rows : List Row) {env : ℕ → Value ℕ (List ℕ)} {n leading count : ℕ} {roots base base' ext ext' room room' : List ℕ} → any_holds rows ≡ false → Completes env n leading count roots base base' ext ext' room room' → Evaluates rows env n leading count roots (Ok tt) base base' ext ext' room room'
 answer_quiet rows q w =
     record { said = sym (first_none rows (gives []) q); base_evals = rw q w.base_written; ext_evals = rw q w.ext_written; room_kept = λ t. clash t q; room_holds = λ t. w.room_holds }
 
-module _ (rows : List Row) {env : ℕ → Value ℕ (List ℕ)} {n leading count : ℕ} {roots : List ℕ} {o : Outcome} (h : said_of_outcome o ≡ first rows (gives [])) where
-  pub answer_refused : {why : Refusal} {base ext room : List ℕ} → o ≡ Refused why → Evaluates rows env n leading count roots (Refused why) base base ext ext room room
+module _ (rows : List Row) {env : ℕ → Value ℕ (List ℕ)} {n leading count : ℕ} {roots : List ℕ} {o : Result (Unit {0}) Refusal} (h : said_of_outcome o ≡ first rows (gives [])) where
+  pub answer_refused : {why : Refusal} {base ext room : List ℕ} → o ≡ Err why → Evaluates rows env n leading count roots (Err why) base base ext ext room room
   answer_refused e =
       let l = loud_rows rows e h in
       record { said = rw e at h; base_evals = rw l; ext_evals = rw l; room_kept = λ q. refl; room_holds = λ q. clash l q }
 
-  pub answer_done : {base base' ext ext' room room' : List ℕ} → numbered rows ≡ true → o ≡ Done → Completes env n leading count roots base base' ext ext' room room' → Evaluates rows env n leading count roots Done base base' ext ext' room room'
+  pub answer_done : {base base' ext ext' room room' : List ℕ} → numbered rows ≡ true → o ≡ Ok tt → Completes env n leading count roots base base' ext ext' room room' → Evaluates rows env n leading count roots (Ok tt) base base' ext ext' room room'
   answer_done m e w = answer_quiet rows (done_rows rows m e h) w
 
 -- ---- rows in two parts
@@ -119,13 +117,13 @@ prover_asked c s nodes roots l base ext room k =
 
 -- ---- the verifier's
 
-module _ (rows : List Row) {env : ℕ → Value ℕ (List ℕ)} {n count : ℕ} {roots : List ℕ} {o : Outcome} (h : said_of_outcome o ≡ first rows (gives [])) where
-  pub verifier_refused : {why : Refusal} {ext room : List ℕ} → o ≡ Refused why → VerifierEvaluates rows env n count roots (Refused why) ext ext room room
+module _ (rows : List Row) {env : ℕ → Value ℕ (List ℕ)} {n count : ℕ} {roots : List ℕ} {o : Result (Unit {0}) Refusal} (h : said_of_outcome o ≡ first rows (gives [])) where
+  pub verifier_refused : {why : Refusal} {ext room : List ℕ} → o ≡ Err why → VerifierEvaluates rows env n count roots (Err why) ext ext room room
   verifier_refused e =
       let l = loud_rows rows e h in
       record { said = rw e at h; ext_evals = rw l; room_kept = λ q. refl; room_holds = λ q. clash l q }
 
-  pub verifier_done : {base base' ext ext' room room' : List ℕ} → numbered rows ≡ true → o ≡ Done → Completes env n 0 count roots base base' ext ext' room room' → VerifierEvaluates rows env n count roots Done ext ext' room room'
+  pub verifier_done : {base base' ext ext' room room' : List ℕ} → numbered rows ≡ true → o ≡ Ok tt → Completes env n 0 count roots base base' ext ext' room room' → VerifierEvaluates rows env n count roots (Ok tt) ext ext' room room'
   verifier_done m e w =
       let q = done_rows rows m e h in
       record { said = rw e at h; ext_evals = rw q w.ext_written; room_kept = λ t. clash t q; room_holds = λ t. w.room_holds }
@@ -150,14 +148,14 @@ verifier_asked c s nodes roots l base ext room h =
 
 -- ---- one row
 
-module _ (rows : List Row) {env : ℕ → Value ℕ (List ℕ)} {n asked : ℕ} {roots : List ℕ} {o : Outcome} (h : said_of_outcome o ≡ first rows (gives [])) where
-  pub row_refused : {why : Refusal} {room : List ℕ} → o ≡ Refused why → RowEvaluates rows env n asked roots (Rejected why) room room
+module _ (rows : List Row) {env : ℕ → Value ℕ (List ℕ)} {n asked : ℕ} {roots : List ℕ} {o : Result (Unit {0}) Refusal} (h : said_of_outcome o ≡ first rows (gives [])) where
+  pub row_refused : {why : Refusal} {room : List ℕ} → o ≡ Err why → RowEvaluates rows env n asked roots (Err why) room room
   row_refused {why} e =
       let l = loud_rows rows e h in
       let q : said_of why ≡ first rows (gives []) = rw e at h in
       record { said = q ∙ first_any rows (gives []) (gives (base_word (env (get_or roots asked 0)) ∷ [])) l; room_kept = λ t. refl; room_holds = λ t. clash l t }
 
-  pub row_done : {v : ℕ} {room room' : List ℕ} → numbered rows ≡ true → o ≡ Done → RoomHolds env n room room' → get_or roots asked 0 < n → Least (get_or room' (4 * get_or roots asked 0 + 1) 0) v → RowEvaluates rows env n asked roots (Base v) room room'
+  pub row_done : {v : ℕ} {room room' : List ℕ} → numbered rows ≡ true → o ≡ Ok tt → RoomHolds env n room room' → get_or roots asked 0 < n → Least (get_or room' (4 * get_or roots asked 0 + 1) 0) v → RowEvaluates rows env n asked roots (Ok v) room room'
   row_done {v} {room} {room'} m e w b i =
       let q = done_rows rows m e h in
       let r = get_or roots asked 0 in
@@ -195,3 +193,7 @@ row_ok c width asked nodes roots l room h =
       root_below = o.formed.root asked b;
       room_long = m.room_long;
     }
+
+-- the same where the refusals' answer is that none holds
+pub row_ready : (c : Counts) (width asked : ℕ) (nodes roots : List ℕ) (l : Lent) (room : List ℕ) {o : Result (Unit {0}) Refusal} → said_of_outcome o ≡ first (row_rows c width asked (lengths nodes roots l room) (row_limits width) nodes roots) (gives []) → o ≡ Ok tt → RowOk c asked nodes roots l (length room)
+row_ready c width asked nodes roots l room h e = row_ok c width asked nodes roots l room (done_rows (row_rows c width asked (lengths nodes roots l room) (row_limits width) nodes roots) refl e h)

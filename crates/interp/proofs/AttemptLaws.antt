@@ -2,7 +2,7 @@
 -- Assumes nothing.
 use mathlib.Core.Bool.{Bool, true, false, not}
 use mathlib.Core.List.{List}
-use mathlib.Core.Option.{none}
+use Rattle.std.specs.Prelude.{None, Ok}
 use mathlib.Core.Path.{◌≡◌, refl, ◌∙◌}
 use Prim.Native.Nat.{ℕ, ◌<◌}
 use native.Mathlib.Nat.{le_refl}
@@ -10,11 +10,10 @@ use lib.Dec.{leb}
 use lib.ListN.{length, get_or}
 use Rattle.laws.specs.Folds.{lowest}
 use Rattle.laws.proofs.Folds.{none_lowest}
-use Rattle.laws.proofs.Tests.{clash, neither}
+use Rattle.laws.proofs.Tests.{neither}
 use Rattle.ir.specs.declared.program.Counts.{Counts}
 use Rattle.ir.specs.declared.frame.Shape.{Shape}
 use Rattle.ir.specs.Words.{node_at}
-use Rattle.ir.specs.declared.refusal.Outcome.TheVariants.{Done}
 use Rattle.ir.specs.Program.{num_base_of, node_ok, ill_formed}
 use Rattle.ir.specs.Refusals.{Row, any_holds}
 use Rattle.ir.proofs.ProgramLaws.{within}
@@ -34,11 +33,11 @@ use Rattle.values.proofs.ReadyLaws.{prover_fits}
 
 -- every node passed, and every root was found below the count: 7 and 13 do not hold
 module _ (c : Counts) (m : Limits) (nodes roots : List ℕ) (h : (j : ℕ) → j < c.nodes → NodeFits c m nodes j (node_at nodes j)) where
-  none_ill : lowest (λ r. leb c.nodes (get_or roots r 0)) c.roots ≡ none → ill_formed c nodes roots ≡ none
+  none_ill : lowest (λ r. leb c.nodes (get_or roots r 0)) c.roots ≡ None → ill_formed c nodes roots ≡ None
   unfolding ill_formed node_ok
   none_ill e = rw (none_lowest (λ i. not (node_ok c nodes i)) c.nodes (λ i l. rw (h i l).formed), e)
 
-  none_outside : lowest (node_outside m nodes) c.nodes ≡ none
+  none_outside : lowest (node_outside m nodes) c.nodes ≡ None
   none_outside = none_lowest (node_outside m nodes) c.nodes (λ i l. (h i l).inside)
 
 -- the converse of `prover_ok`
@@ -78,9 +77,6 @@ module _ (c : Counts) (s : Shape) (nodes roots : List ℕ) (l : Lent) (base ext 
         kept = t.kept;
       }
 
-  pub attempt_kept : (room : List ℕ) → Attempt (rows room) env c.nodes room room false
-  attempt_kept room = record { quiet = λ e. clash e refl; holds = λ e. clash e refl; kept = λ e. refl }
-
 -- ---- its answer
 
 module _ (c : Counts) (s : Shape) (nodes roots : List ℕ) (l : Lent) (base ext room : List ℕ) where
@@ -93,5 +89,5 @@ module _ (c : Counts) (s : Shape) (nodes roots : List ℕ) (l : Lent) (base ext 
   pub attempt_roots : (room' : List ℕ) {r : Bool} → Attempted room' r → r ≡ true → RootsIn c.roots (num_base_of c) roots (length room') (length base) (length ext)
   attempt_roots room' t e = rw (t.holds e).long (asked (t.quiet e)).1
 
-  pub attempt_done : (room' base' ext' : List ℕ) {r : Bool} → Attempted room' r → r ≡ true → WritesRoots c.roots (num_base_of c) roots room' base base' ext ext' → ProverAnswer c s nodes roots l Done base base' ext ext' room room'
+  pub attempt_done : (room' base' ext' : List ℕ) {r : Bool} → Attempted room' r → r ≡ true → WritesRoots c.roots (num_base_of c) roots room' base base' ext ext' → ProverAnswer c s nodes roots l (Ok tt) base base' ext ext' room room'
   attempt_done room' base' ext' t e w = answer_quiet (rows c s nodes roots l (length base) (length ext) room) (t.quiet e) (completes (t.holds e) w (asked (t.quiet e)).2)

@@ -1,5 +1,7 @@
 -- Each evaluator's promise leaves one answer and one memory: first by any rows and values, then by the contracts' own names.
 -- Assumes nothing.
+use Rattle.std.specs.Prelude.{Result, Ok, Err}
+use Rattle.ir.specs.declared.refusal.Refusal.{Refusal}
 use Rattle.evaluation.proofs.EvalLaws.{one_word}
 use mathlib.Core.Bool.{Bool, true, false, cond}
 use mathlib.Core.List.{List}
@@ -14,11 +16,8 @@ use Rattle.laws.proofs.Blocks.{same_blocks}
 use Rattle.laws.proofs.Cases.{by_test}
 use Rattle.ir.specs.declared.program.Counts.{Counts}
 use Rattle.ir.specs.declared.frame.Shape.{Shape}
-use Rattle.ir.specs.declared.refusal.Outcome.{Outcome}
 use Rattle.ir.specs.Refusals.{Said, Row, any_holds}
 use Rattle.ir.proofs.Single.{refusal_of, known, outcome_single}
-use Rattle.evaluation.specs.declared.evals.Evaluated.{Evaluated}
-use Rattle.evaluation.specs.declared.evals.Evaluated.TheVariants.{Base, Rejected}
 use Rattle.values.specs.Values.{Value}
 use Rattle.values.specs.Frame.{Lent}
 use Rattle.values.specs.Room.{Kept, RoomHolds}
@@ -60,7 +59,7 @@ room_one b {env} {n} {old} {a} {c} f g h k =
     by_test b (a ≡ c) (λ t. f t ∙ sym (h t)) λ t. room_single (g t) (k t)
 
 module _ {rows : List Row} {env : ℕ → Value ℕ (List ℕ)} {n count : ℕ} {roots : List ℕ} where
-  pub evaluates_single : {leading : ℕ} {r r' : Outcome} {base base₁ base₂ ext ext₁ ext₂ room room₁ room₂ : List ℕ} → Evaluates rows env n leading count roots r base base₁ ext ext₁ room room₁ → Evaluates rows env n leading count roots r' base base₂ ext ext₂ room room₂ → (r ≡ r') × (base₁ ≡ base₂) × (ext₁ ≡ ext₂) × (room₁ ≡ room₂)
+  pub evaluates_single : {leading : ℕ} {r r' : Result (Unit {0}) Refusal} {base base₁ base₂ ext ext₁ ext₂ room room₁ room₂ : List ℕ} → Evaluates rows env n leading count roots r base base₁ ext ext₁ room room₁ → Evaluates rows env n leading count roots r' base base₂ ext ext₂ room room₂ → (r ≡ r') × (base₁ ≡ base₂) × (ext₁ ≡ ext₂) × (room₁ ≡ room₂)
   evaluates_single {leading} {r} {r'} f g = (
     outcome_single r r' (f.said ∙ sym g.said),
     f.base_evals ∙ sym g.base_evals,
@@ -68,7 +67,7 @@ module _ {rows : List Row} {env : ℕ → Value ℕ (List ℕ)} {n count : ℕ} 
     room_one (any_holds rows) f.room_kept f.room_holds g.room_kept g.room_holds,
   )
 
-  pub verifier_evaluates_single : {r r' : Outcome} {ext ext₁ ext₂ room room₁ room₂ : List ℕ} → VerifierEvaluates rows env n count roots r ext ext₁ room room₁ → VerifierEvaluates rows env n count roots r' ext ext₂ room room₂ → (r ≡ r') × (ext₁ ≡ ext₂) × (room₁ ≡ room₂)
+  pub verifier_evaluates_single : {r r' : Result (Unit {0}) Refusal} {ext ext₁ ext₂ room room₁ room₂ : List ℕ} → VerifierEvaluates rows env n count roots r ext ext₁ room room₁ → VerifierEvaluates rows env n count roots r' ext ext₂ room room₂ → (r ≡ r') × (ext₁ ≡ ext₂) × (room₁ ≡ room₂)
   verifier_evaluates_single {r} {r'} f g = (
     outcome_single r r' (f.said ∙ sym g.said),
     f.ext_evals ∙ sym g.ext_evals,
@@ -76,14 +75,14 @@ module _ {rows : List Row} {env : ℕ → Value ℕ (List ℕ)} {n count : ℕ} 
   )
 
 -- a value, or a refusal, is known by what it says
-abbrev evaluated_said : Said → Evaluated
-evaluated_said s = cond (eqb s.number 0) (Base (get_or s.values 0 0)) (Rejected (refusal_of s.number s.place))
+abbrev evaluated_said : Said → Result ℕ Refusal
+evaluated_said s = cond (eqb s.number 0) (Ok (get_or s.values 0 0)) (Err (refusal_of s.number s.place))
 
-evaluated_back : (r : Evaluated) → evaluated_said (said_of_evaluated r) ≡ r
-evaluated_back (Base v) = refl
-evaluated_back (Rejected w) = rw ((known w).0, (known w).1)
+evaluated_back : (r : Result ℕ Refusal) → evaluated_said (said_of_evaluated r) ≡ r
+evaluated_back (Ok v) = refl
+evaluated_back (Err w) = rw ((known w).0, (known w).1)
 
-pub row_evaluates_single : {rows : List Row} {env : ℕ → Value ℕ (List ℕ)} {n asked : ℕ} {roots : List ℕ} {r r' : Evaluated} {room room₁ room₂ : List ℕ} → RowEvaluates rows env n asked roots r room room₁ → RowEvaluates rows env n asked roots r' room room₂ → (r ≡ r') × (room₁ ≡ room₂)
+pub row_evaluates_single : {rows : List Row} {env : ℕ → Value ℕ (List ℕ)} {n asked : ℕ} {roots : List ℕ} {r r' : Result ℕ Refusal} {room room₁ room₂ : List ℕ} → RowEvaluates rows env n asked roots r room room₁ → RowEvaluates rows env n asked roots r' room room₂ → (r ≡ r') × (room₁ ≡ room₂)
 row_evaluates_single {rows} {env} {n} {asked} {roots} {r} {r'} f g = (
   sym (evaluated_back r) ∙ ap evaluated_said (f.said ∙ sym g.said) ∙ evaluated_back r',
   room_one (any_holds rows) f.room_kept f.room_holds g.room_kept g.room_holds,
@@ -92,11 +91,11 @@ row_evaluates_single {rows} {env} {n} {asked} {roots} {r} {r'} f g = (
 -- ---- the three contracts
 
 module _ (c : Counts) (s : Shape) (nodes roots : List ℕ) (l : Lent) {room room₁ room₂ : List ℕ} where
-  pub eval_program_single : {r r' : Outcome} {base base₁ base₂ ext ext₁ ext₂ : List ℕ} → ProverAnswer c s nodes roots l r base base₁ ext ext₁ room room₁ → ProverAnswer c s nodes roots l r' base base₂ ext ext₂ room room₂ → (r ≡ r') × (base₁ ≡ base₂) × (ext₁ ≡ ext₂) × (room₁ ≡ room₂)
+  pub eval_program_single : {r r' : Result (Unit {0}) Refusal} {base base₁ base₂ ext ext₁ ext₂ : List ℕ} → ProverAnswer c s nodes roots l r base base₁ ext ext₁ room room₁ → ProverAnswer c s nodes roots l r' base base₂ ext ext₂ room room₂ → (r ≡ r') × (base₁ ≡ base₂) × (ext₁ ≡ ext₂) × (room₁ ≡ room₂)
   eval_program_single f g = evaluates_single f g
 
-  pub eval_program_verifier_single : {r r' : Outcome} {ext ext₁ ext₂ : List ℕ} → VerifierAnswer c s nodes roots l r ext ext₁ room room₁ → VerifierAnswer c s nodes roots l r' ext ext₂ room room₂ → (r ≡ r') × (ext₁ ≡ ext₂) × (room₁ ≡ room₂)
+  pub eval_program_verifier_single : {r r' : Result (Unit {0}) Refusal} {ext ext₁ ext₂ : List ℕ} → VerifierAnswer c s nodes roots l r ext ext₁ room room₁ → VerifierAnswer c s nodes roots l r' ext ext₂ room room₂ → (r ≡ r') × (ext₁ ≡ ext₂) × (room₁ ≡ room₂)
   eval_program_verifier_single f g = verifier_evaluates_single f g
 
-pub eval_program_base_single : (c : Counts) (width asked : ℕ) (nodes roots : List ℕ) (l : Lent) {r r' : Evaluated} {room room₁ room₂ : List ℕ} → RowAnswer c width asked nodes roots l r room room₁ → RowAnswer c width asked nodes roots l r' room room₂ → (r ≡ r') × (room₁ ≡ room₂)
+pub eval_program_base_single : (c : Counts) (width asked : ℕ) (nodes roots : List ℕ) (l : Lent) {r r' : Result ℕ Refusal} {room room₁ room₂ : List ℕ} → RowAnswer c width asked nodes roots l r room room₁ → RowAnswer c width asked nodes roots l r' room room₂ → (r ≡ r') × (room₁ ≡ room₂)
 eval_program_base_single c width asked nodes roots l f g = row_evaluates_single f g

@@ -2,7 +2,7 @@
 -- Assumes nothing.
 use mathlib.Core.Bool.{Bool, true, false, ◌&&◌}
 use mathlib.Core.List.{List, [], ◌∷◌, ◌++◌}
-use mathlib.Core.Option.{Option, none, some}
+use Rattle.std.specs.Prelude.{Option, None, Some, Result, Ok, Err}
 use mathlib.Core.Path.{◌≡◌, refl, sym, ap, ◌∙◌}
 use Prim.Native.Nat.{ℕ}
 use native.Mathlib.Omega.{arith}
@@ -12,8 +12,6 @@ use Rattle.laws.proofs.Cases.{by_test}
 use Rattle.laws.proofs.Tests.{clash, and_left, and_right, or_left, or_right}
 use Rattle.ir.specs.declared.refusal.Refusal.{Refusal}
 use Rattle.ir.specs.declared.refusal.Refusal.TheVariants.{ShortMemory, OverLimit, ForeignHandle, NodesFull, ConstantsFull, NoConstraint, IllFormed, TooManyNodes, TooManyRoots, ShortOutput, IllegalBlob, ExtensionRoot, LeafOutside, ShortEvals, BadFraming}
-use Rattle.ir.specs.declared.refusal.Outcome.{Outcome}
-use Rattle.ir.specs.declared.refusal.Outcome.TheVariants.{Done, Refused}
 use Rattle.ir.specs.Refusals.{Said, gives, said_of, said_of_outcome, Row, found, first, any_holds}
 
 -- a refusal's number is not 0
@@ -57,9 +55,9 @@ module _ (vs : List ℕ) where
       λ h. rw h (refused_loud rs (λ e. n (rw h e)))
 
 -- a row that does not hold found no place
-pub not_found : (o : Option ℕ) → found o ≡ false → o ≡ none
-not_found none h = refl
-not_found (some i) h = clash refl h
+pub not_found : (o : Option ℕ) → found o ≡ false → o ≡ None
+not_found None h = refl
+not_found (Some i) h = clash refl h
 
 -- a refusal among the first rows is the call's
 pub first_loud : (a b : List Row) (s t : Said) → any_holds a ≡ true → first (a ++ b) s ≡ first a t
@@ -74,17 +72,17 @@ first_quiet (r ∷ rs) b s h =
 
 -- ---- an inner call's answer, in the call around it
 
-pub refused_rows : (a b : List Row) {o : Outcome} {why : Refusal} → o ≡ Refused why → said_of_outcome o ≡ first a (gives []) → said_of why ≡ first (a ++ b) (gives [])
+pub refused_rows : (a b : List Row) {o : Result (Unit {0}) Refusal} {why : Refusal} → o ≡ Err why → said_of_outcome o ≡ first a (gives []) → said_of why ≡ first (a ++ b) (gives [])
 refused_rows a b {o} {why} e h =
     let q : said_of why ≡ first a (gives []) = rw e at h in
     q ∙ sym (first_loud a b (gives []) (gives []) (refused_loud [] a (λ z. refusal_number why (ap (λ (s : Said). s.number) q ∙ z))))
 
-pub done_rows : (a : List Row) {o : Outcome} → numbered a ≡ true → o ≡ Done → said_of_outcome o ≡ first a (gives []) → any_holds a ≡ false
+pub done_rows : (a : List Row) {o : Result (Unit {0}) Refusal} → numbered a ≡ true → o ≡ Ok tt → said_of_outcome o ≡ first a (gives []) → any_holds a ≡ false
 done_rows a {o} n e h =
     let q : gives [] ≡ first a (gives []) = rw e at h in
     done_quiet [] a n (sym (ap (λ (s : Said). s.number) q))
 
-pub loud_rows : (a : List Row) {o : Outcome} {why : Refusal} → o ≡ Refused why → said_of_outcome o ≡ first a (gives []) → any_holds a ≡ true
+pub loud_rows : (a : List Row) {o : Result (Unit {0}) Refusal} {why : Refusal} → o ≡ Err why → said_of_outcome o ≡ first a (gives []) → any_holds a ≡ true
 loud_rows a {o} {why} e h =
     let q : said_of why ≡ first a (gives []) = rw e at h in
     refused_loud [] a (λ z. refusal_number why (ap (λ (s : Said). s.number) q ∙ z))

@@ -1,14 +1,12 @@
 -- A refusal is known by what it says, and the promise of the program check leaves one answer.
 -- Assumes nothing.
+use Rattle.std.specs.Prelude.{Result, Ok, Err}
 use mathlib.Core.Bool.{false, cond}
 use mathlib.Core.Path.{◌≡◌, refl, sym, ap, ◌∙◌}
 use Prim.Native.Nat.{ℕ}
 use lib.Dec.{eqb}
 use Rattle.ir.specs.declared.refusal.Refusal.{Refusal}
 use Rattle.ir.specs.declared.refusal.Refusal.TheVariants.{ShortMemory, OverLimit, ForeignHandle, NodesFull, ConstantsFull, NoConstraint, IllFormed, TooManyNodes, TooManyRoots, ShortOutput, IllegalBlob, ExtensionRoot, LeafOutside, ShortEvals, BadFraming}
-use Rattle.ir.specs.declared.refusal.Outcome.{Outcome}
-use Rattle.ir.specs.declared.refusal.Outcome.TheVariants.{Done}
-use Rattle.ir.specs.declared.refusal.Outcome.TheVariants as Outcomes
 use Rattle.ir.specs.Program.{Program, checked}
 use Rattle.ir.specs.Refusals.{Said, said_of, said_of_outcome}
 
@@ -50,16 +48,16 @@ known BadFraming = (refl, refl)
 
 -- ---- calls that hand nothing back
 
-abbrev outcome_said : Said → Outcome
-outcome_said s = cond (eqb s.number 0) Done (Outcomes.Refused (refusal_of s.number s.place))
+abbrev outcome_said : Said → Result (Unit {0}) Refusal
+outcome_said s = cond (eqb s.number 0) (Ok tt) (Err (refusal_of s.number s.place))
 
-outcome_back : (o : Outcome) → outcome_said (said_of_outcome o) ≡ o
-outcome_back Done = refl
-outcome_back (Outcomes.Refused r) = rw ((known r).0, (known r).1)
+outcome_back : (o : Result (Unit {0}) Refusal) → outcome_said (said_of_outcome o) ≡ o
+outcome_back (Ok tt) = refl
+outcome_back (Err r) = rw ((known r).0, (known r).1)
 
-pub outcome_single : (o o' : Outcome) → said_of_outcome o ≡ said_of_outcome o' → o ≡ o'
+pub outcome_single : (o o' : Result (Unit {0}) Refusal) → said_of_outcome o ≡ said_of_outcome o' → o ≡ o'
 outcome_single o o' e = sym (outcome_back o) ∙ ap outcome_said e ∙ outcome_back o'
 
 -- the program check's contract is an equation on what is said: one answer
-pub check_program_single : (p : Program) {o o' : Outcome} → said_of_outcome o ≡ checked p → said_of_outcome o' ≡ checked p → o ≡ o'
+pub check_program_single : (p : Program) {o o' : Result (Unit {0}) Refusal} → said_of_outcome o ≡ checked p → said_of_outcome o' ≡ checked p → o ≡ o'
 check_program_single p {o} {o'} f g = outcome_single o o' (f ∙ sym g)

@@ -2,7 +2,7 @@
 -- Assumes nothing.
 use mathlib.Core.Bool.{Bool, true, cond, not, ◌&&◌}
 use mathlib.Core.List.{List}
-use mathlib.Core.Option.{none}
+use Rattle.std.specs.Prelude.{None}
 use mathlib.Core.Path.{◌≡◌}
 use Prim.Native.Nat.{ℕ, ◌%◌, ◌<◌, ◌≤◌}
 use native.Mathlib.Omega.{arith}
@@ -142,7 +142,7 @@ module _ (c : Counts) (nodes : List ℕ) where
     bad_root r = leb c.nodes (get_or roots r 0)
 
     -- the check finds nothing exactly where every node and root is as it has to be
-    pub well_formed : ill_formed c nodes roots ≡ none → WellFormed c nodes roots
+    pub well_formed : ill_formed c nodes roots ≡ None → WellFormed c nodes roots
     unfolding ill_formed
     well_formed h =
         let n = lowest bad_node c.nodes in
@@ -152,7 +152,7 @@ module _ (c : Counts) (nodes : List ℕ) where
           root = λ i l. leb-false c.nodes (get_or roots i 0) (lowest_none bad_root c.roots (or_none_right n r h) i l);
         }
 
-    pub formed_well : WellFormed c nodes roots → ill_formed c nodes roots ≡ none
+    pub formed_well : WellFormed c nodes roots → ill_formed c nodes roots ≡ None
     unfolding ill_formed
     formed_well f =
         rw (none_lowest bad_node c.nodes (λ i l. rw (facts_node i (f.node i l))), none_lowest bad_root c.roots (λ i l. lt-leb c.nodes (get_or roots i 0) (f.root i l)))

@@ -1,9 +1,9 @@
 -- A program over lent words, and when it is well-formed.
 -- Assumes nothing.
-use Rattle.std.specs.Prelude.{Bool, cond, not, ◌&&◌, ◌||◌, List, [], ◌∷◌, ℕ, ◌*◌, ◌%◌, eqb, leb, ltb, length, get_or}
-use Rattle.std.proofs.Math.Option.{Option}
+use Rattle.std.specs.Prelude.{Bool, cond, not, ◌&&◌, ◌||◌, List, [], ◌∷◌, ℕ, ◌*◌, ◌%◌, eqb, leb, ltb, length, get_or, Option}
 use Rattle.laws.specs.Folds.{lowest, or_else}
 use Rattle.ir.specs.declared.program.Counts.{Counts}
+use Rattle.ir.specs.declared.program.ProgramRef.{ProgramRef}
 use Rattle.ir.specs.Refusals.{Said, Row, row, row_at, first, gives}
 use Rattle.ir.specs.Words.{Node, node_at, const_base, const_ext, var, table_offset, add, neg, embed}
 
@@ -14,6 +14,11 @@ pub record Program : Type 0 where
   pub bases : List ℕ
   pub exts : List ℕ
   pub roots : List ℕ
+
+-- what is behind a reference to a program
+abbrev pub program_of : ProgramRef → Program
+program_of p =
+    record { counts = p.counts; nodes = p.nodes.now; bases = p.bases.now; exts = p.exts.now; roots = p.roots.now }
 
 -- num_base, as the caller has it: constraints below it go to base_evals
 abbrev pub num_base_of : Counts → ℕ

@@ -1,13 +1,8 @@
 -- What a call says: document 01's number, the place, and the values that it gives; and the order of refusals as a table.
 -- Assumes nothing.
-use Rattle.std.specs.Prelude.{Bool, true, false, cond, ◌||◌, List, [], ◌∷◌, ℕ, eqb}
-use Rattle.std.proofs.Math.Option.{Option, none, some}
+use Rattle.std.specs.Prelude.{Bool, true, false, cond, ◌||◌, List, [], ◌∷◌, ℕ, eqb, Option, None, Some, Result, Ok, Err}
 use Rattle.ir.specs.declared.refusal.Refusal.{Refusal}
 use Rattle.ir.specs.declared.refusal.Refusal.TheVariants.{ShortMemory, OverLimit, ForeignHandle, NodesFull, ConstantsFull, NoConstraint, IllFormed, TooManyNodes, TooManyRoots, ShortOutput, IllegalBlob, ExtensionRoot, LeafOutside, ShortEvals, BadFraming}
-use Rattle.ir.specs.declared.refusal.Outcome.{Outcome}
-use Rattle.ir.specs.declared.refusal.Outcome.TheVariants.{Done, Refused}
-use Rattle.ir.specs.declared.refusal.Place.{Place}
-use Rattle.ir.specs.declared.refusal.Place.TheVariants.{At, Nowhere}
 
 -- a call's answer, by document 01: 0 with its values, or the number of a refusal with its place
 pub record Said : Type 0 where
@@ -42,14 +37,9 @@ said_of ShortEvals = refuses 14 0
 said_of BadFraming = refuses 15 0
 
 -- the same of an answer that is done or refused
-abbrev pub said_of_outcome : Outcome → Said
-said_of_outcome Done = gives []
-said_of_outcome (Refused r) = said_of r
-
--- a search's place
-abbrev pub place_of : Place → Option ℕ
-place_of (At i) = some i
-place_of Nowhere = none
+abbrev pub said_of_outcome : Result (Unit {0}) Refusal → Said
+said_of_outcome (Ok _) = gives []
+said_of_outcome (Err r) = said_of r
 
 -- ---- the order
 
@@ -69,13 +59,13 @@ row b n = record { holds = b; number = n; place = 0 }
 
 -- whether a search found a place
 abbrev pub found : Option ℕ → Bool
-found none = false
-found (some i) = true
+found None = false
+found (Some i) = true
 
 -- the place that it found
 abbrev pub found_at : Option ℕ → ℕ
-found_at none = 0
-found_at (some i) = i
+found_at None = 0
+found_at (Some i) = i
 
 -- a row that holds where a search finds a place, and names it
 abbrev pub row_at : Option ℕ → ℕ → Row

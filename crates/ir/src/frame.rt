@@ -17,20 +17,13 @@ pub const MOST_STEPS: usize = 256;
 
 pub const MOST_COLUMNS: usize = 65536;
 
+#[tactic(auto, unfolding(crate::specs::Shape::over_shape))]
 pub fn over_shape(s: Shape) -> bool
     ensures { result ≡ over_shape s }
 {
-    if MOST_STEPS < s.steps {
-        return true;
-    }
-    if MOST_COLUMNS < s.main {
-        return true;
-    }
-    if MOST_COLUMNS < s.aux {
-        return true;
-    }
-    if MOST_COLUMNS < s.challenges {
-        return true;
-    }
-    MOST_COLUMNS < s.alphas
+    MOST_STEPS < s.steps
+        || MOST_COLUMNS < s.main
+        || MOST_COLUMNS < s.aux
+        || MOST_COLUMNS < s.challenges
+        || MOST_COLUMNS < s.alphas
 }

@@ -2,7 +2,8 @@
 ghost use Rattle.std.specs.Prelude.{◌≡◌};
 ghost use Rattle.ir.specs.Words.{packed, unpacked};
 
-// The tags, as device.rs numbers them.
+// The tags, as device.rs numbers them: numbers and no enum, for a word of lent memory may be none of them, and the definitions
+// speak of the numbers.
 pub const OP_CONST_BASE: u32 = 0;
 
 pub const OP_CONST_EXT: u32 = 1;
@@ -25,7 +26,7 @@ pub const OP_NEG: u32 = 9;
 
 pub const OP_EMBED: u32 = 10;
 
-// The dims.
+// The dims, numbers as the tags are.
 pub const DIM_BASE: u32 = 0;
 
 pub const DIM_EXT: u32 = 1;

@@ -1,6 +1,6 @@
 // Why a call refuses: one case for each row of document 01's table. A case with a place names what is at fault: in 7
 // and 11 the lowest node, else the lowest root; in 12 the constraint; in 13 the lowest node.
-#[derive(Clone, Copy)]
+#[derive(Clone, Copy, Debug, PartialEq, Eq)]
 pub enum Refusal {
     // 1: lent memory is shorter than counts or shape need.
     ShortMemory,
@@ -32,18 +32,4 @@ pub enum Refusal {
     ShortEvals,
     // 15: a stored form is under 32 bytes, or its distance or length is not as its counts say.
     BadFraming,
-}
-
-// Done, with nothing to hand back, or refused.
-#[derive(Clone, Copy)]
-pub enum Outcome {
-    Done,
-    Refused(Refusal),
-}
-
-// The place that a search finds.
-#[derive(Clone, Copy)]
-pub enum Place {
-    At(usize),
-    Nowhere,
 }

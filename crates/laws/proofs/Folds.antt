@@ -3,7 +3,7 @@
 use mathlib.Core.Bool.{Bool, true, false, cond, ◌||◌}
 use mathlib.Core.List.{[], ◌∷◌, ◌++◌}
 use mathlib.Core.Logic.{⊎_elim}
-use mathlib.Core.Option.{Option, none, some}
+use Rattle.std.specs.Prelude.{Option, None, Some}
 use mathlib.Core.Path.{◌≡◌, refl, ap}
 use Prim.Native.Nat.{ℕ, zero, suc, ◌+◌, ◌<◌, ◌≤◌}
 use native.Mathlib.Decide.{le_ind}
@@ -14,18 +14,18 @@ use lib.ListN.{length, length-append}
 use Rattle.laws.specs.Folds.{any_below, lowest, or_else, all_below, through}
 
 -- no place is some place
-pub none_some : {P : Type 0} {A : Type 0} {o : Option A} {x : A} → o ≡ none → o ≡ some x → P
+pub none_some : {P : Type 0} {A : Type 0} {o : Option A} {x : A} → o ≡ None → o ≡ Some x → P
 none_some p q = absurd (let z : ◌≡◌ {A = ℕ} 0 1 = cc in omega arith)
 
-pub or_none_left : (a b : Option ℕ) → or_else a b ≡ none → a ≡ none
-or_none_left none b h = refl
-or_none_left (some i) b h = none_some h refl
+pub or_none_left : (a b : Option ℕ) → or_else a b ≡ None → a ≡ None
+or_none_left None b h = refl
+or_none_left (Some i) b h = none_some h refl
 
-pub or_none_right : (a b : Option ℕ) → or_else a b ≡ none → b ≡ none
-or_none_right none b h = h
-or_none_right (some i) b h = none_some h refl
+pub or_none_right : (a b : Option ℕ) → or_else a b ≡ None → b ≡ None
+or_none_right None b h = h
+or_none_right (Some i) b h = none_some h refl
 
-not_here : (b : Bool) (n : ℕ) → cond b (some n) none ≡ none → b ≡ false
+not_here : (b : Bool) (n : ℕ) → cond b (Some n) None ≡ None → b ≡ false
 not_here true n h = none_some h refl
 not_here false n h = refl
 
@@ -34,32 +34,32 @@ one_or_none true i = refl
 one_or_none false i = refl
 
 module _ (t : ℕ → Bool) where
-  pub lowest_start : lowest t 0 ≡ none
+  pub lowest_start : lowest t 0 ≡ None
   unfolding lowest
   lowest_start = refl
 
-  pub lowest_on : (i : ℕ) → lowest t i ≡ none → t i ≡ false → lowest t (i + 1) ≡ none
+  pub lowest_on : (i : ℕ) → lowest t i ≡ None → t i ≡ false → lowest t (i + 1) ≡ None
   unfolding lowest
   lowest_on i h e = rw (add-one, h, e)
 
-  pub lowest_at : (i : ℕ) → lowest t i ≡ none → t i ≡ true → lowest t (i + 1) ≡ some i
+  pub lowest_at : (i : ℕ) → lowest t i ≡ None → t i ≡ true → lowest t (i + 1) ≡ Some i
   unfolding lowest
   lowest_at i h e = rw (add-one, h, e)
 
   -- a place that was found stays the lowest
-  pub lowest_stays : (k : ℕ) {i n : ℕ} → k ≤ n → lowest t k ≡ some i → lowest t n ≡ some i
+  pub lowest_stays : (k : ℕ) {i n : ℕ} → k ≤ n → lowest t k ≡ Some i → lowest t n ≡ Some i
   unfolding lowest
-  lowest_stays k {i} {n} l h = le_ind (λ m. lowest t m ≡ some i) h (λ m q e. rw e) n l
+  lowest_stays k {i} {n} l h = le_ind (λ m. lowest t m ≡ Some i) h (λ m q e. rw e) n l
 
   -- nothing is found exactly where the test fails everywhere
-  pub lowest_none : (n : ℕ) → lowest t n ≡ none → (i : ℕ) → i < n → t i ≡ false
+  pub lowest_none : (n : ℕ) → lowest t n ≡ None → (i : ℕ) → i < n → t i ≡ false
   unfolding lowest
   lowest_none zero h i l = absurd (omega arith)
   lowest_none (suc n) h i l =
-      ⊎_elim (λ (e : i ≡ n). rw e (not_here (t n) n (or_none_right (lowest t n) (cond (t n) (some n) none) h))) (λ (m : i < n). lowest_none n (or_none_left (lowest t n) (cond (t n) (some n) none) h) i m)
+      ⊎_elim (λ (e : i ≡ n). rw e (not_here (t n) n (or_none_right (lowest t n) (cond (t n) (Some n) None) h))) (λ (m : i < n). lowest_none n (or_none_left (lowest t n) (cond (t n) (Some n) None) h) i m)
       (let m : i ≤ n = omega arith in eq-or-lt_of_le m)
 
-  pub none_lowest : (n : ℕ) → ((i : ℕ) → i < n → t i ≡ false) → lowest t n ≡ none
+  pub none_lowest : (n : ℕ) → ((i : ℕ) → i < n → t i ≡ false) → lowest t n ≡ None
   unfolding lowest
   none_lowest zero h = refl
   none_lowest (suc n) h = rw (none_lowest n (λ i l. h i (omega arith)), h n (omega arith))
@@ -117,11 +117,11 @@ module _ {A : Type 0} (step : A → ℕ → A) where
   through_keeps R keep (suc n) e = keep _ _ n (through_keeps R keep n e)
 
 -- two tests that agree as long as neither has held find the same place
-pub lowest_same : (s t : ℕ → Bool) (n : ℕ) → ((i : ℕ) → i < n → lowest t i ≡ none → s i ≡ t i) → lowest s n ≡ lowest t n
+pub lowest_same : (s t : ℕ → Bool) (n : ℕ) → ((i : ℕ) → i < n → lowest t i ≡ None → s i ≡ t i) → lowest s n ≡ lowest t n
 unfolding lowest
 lowest_same s t zero h = refl
 lowest_same s t (suc n) h = rw (lowest_same s t n (λ i l. h i (omega arith))) (last (lowest t n) refl)
   where
-    last : (o : Option ℕ) → lowest t n ≡ o → or_else o (cond (s n) (some n) none) ≡ or_else o (cond (t n) (some n) none)
-    last none e = rw (h n (omega arith) e)
-    last (some i) e = refl
+    last : (o : Option ℕ) → lowest t n ≡ o → or_else o (cond (s n) (Some n) None) ≡ or_else o (cond (t n) (Some n) None)
+    last None e = rw (h n (omega arith) e)
+    last (Some i) e = refl

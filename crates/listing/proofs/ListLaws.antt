@@ -1,26 +1,30 @@
 -- Laws of the listing: text put piece by piece, digits, and lines one after another.
 -- Assumes nothing.
-use mathlib.Core.Bool.{Bool, true, false, cond}
+use mathlib.Core.Bool.{Bool, true, false}
 use mathlib.Core.List.{List, [], ◌∷◌, ◌++◌, append_assoc, append-nil}
 use mathlib.Core.Path.{◌≡◌, refl, sym, ap, ◌∙◌}
 use Prim.Native.Nat.{ℕ, zero, suc, ◌+◌, ◌-◌, ◌*◌, ◌/◌, ◌%◌, ◌^◌, ◌<◌, ◌≤◌}
-use native.Mathlib.Nat.{mod-eq_of_lt, mul-suc, mul-zero, pow-succ'}
+use native.Mathlib.Nat.{mod-eq_of_lt, mul-suc, mul-zero, mul-le-mul_left}
 use native.Mathlib.Numerals.{add-one}
 use native.Mathlib.Omega.{arith}
-use lib.Dec.{ltb}
-use lib.ListN.{length, get_or, set, take, drop, length-append}
-use lib.Seq.{sets, take_all, take-suc, drop-drop, length-take-le}
+use lib.ListN.{length, get_or, take, drop, length-append, length-drop, length-map}
+use lib.Seq.{sets, paste, take_all, take-suc, drop-drop, length-take-le, sets-eq}
+use borrow.Rule.Slice.PartMut.{put_mid}
+use Rattle.std.specs.Fmt as Fmt
+use Rattle.std.proofs.lemmas.Fmt.{AppendsLastDigit, decimal_from_appends, length-decimal-le}
+use Rattle.std.proofs.lemmas.List.{get_or-drop, drop-take, take-take}
+use Rattle.std.proofs.lemmas.Slice.{put_mid-paste}
 use borrow.Author.Tests.{lt-ltb, le-ltb}
-use Rattle.laws.proofs.Cases.{by_test}
 use Rattle.laws.proofs.Parts.{sets_append}
 use Rattle.little_endian.specs.Bytes.{le_value}
 use Rattle.blob_rules.specs.declared.blob.BlobCounts.{BlobCounts}
-use Rattle.stored_parts.specs.Form.{words, below_p, size, counts_in, bad_framing, tables_in}
+use Rattle.stored_parts.specs.Form.{words, below_p, counts_in, bad_framing, tables_in}
 use Rattle.stored.specs.Answer.{counts_of}
-use Rattle.listing.specs.Listing.{digits, decimal, ending, numbers, line, lines, blob_name, node_name, const_name, ext_name, root_name, end_line, refused_name, listing, blob_list, Listable, Puts}
-use Rattle.stored_parts.proofs.WordLaws.{drop_none}
-use Rattle.stored.proofs.RoundLaws.{take_below, trailer_words_lem}
-use Rattle.stored.proofs.AnswerLaws.{framed}
+use Rattle.listing.specs.Listing.{digits, decimal, ending, numbers, line, lines, blob_name, node_name, const_name, ext_name, root_name, end_line, refused_name, listing, blob_list, Listable, Holds, SectionsOf, Puts}
+use Rattle.listing.specs.declared.listing.Sections.{Sections}
+use Rattle.stored_parts.proofs.WordLaws.{drop_none, words_long, sets_long}
+use Rattle.field.specs.Base.{p}
+use Rattle.stored.proofs.RoundLaws.{trailer_words_lem}
 
 -- ---- pieces
 
@@ -44,79 +48,40 @@ module _ {out : List ℕ} {at : ℕ} where
   pub puts_as : {m r : ℕ} {new : List ℕ} {a b : List ℕ} → Puts out at m a new r → a ≡ b → Puts out at m b new r
   puts_as x e = record { stands = rw e at x.stands; next = rw e at x.next; small = x.small }
 
--- nothing put
-pub puts_none : (out : List ℕ) (at : ℕ) → Puts out at 0 [] out at
-puts_none out at = record { stands = refl; next = omega arith; small = omega arith }
+  -- a room stays as long as it was
+  pub puts_room : {m r : ℕ} {new a : List ℕ} → Puts out at m a new r → length new ≡ length out
+  puts_room {a = a} x = sets_long out at a x.stands
 
--- one byte
-pub puts_byte : (out : List ℕ) (at b : ℕ) → Puts out at 1 (b ∷ []) (set out at b) (at + 1)
-puts_byte out at b = record { stands = refl; next = omega arith; small = omega arith }
+  -- what stands in the room, where it ends as another list
+  pub puts_end : {m r : ℕ} {new a end : List ℕ} → Puts out at m a new r → end ≡ new → Puts out at m a end r
+  puts_end x e = record { stands = e ∙ x.stands; next = x.next; small = x.small }
 
 -- ---- digits
 
-digits_long : (k n : ℕ) → length (digits k n) ≤ k
-digits_long zero n = omega arith
-digits_long (suc k) n =
-    by_test (ltb n 10) (length (digits (suc k) n) ≤ suc k)
-    (λ h. rw h (omega arith))
-    λ h. rw (h, length-append (digits k (n / 10)) ((48 + n % 10) ∷ [])) (let q = digits_long k (n / 10) in omega arith)
-
--- more room for digits shows no more
-digits_steady : (k n : ℕ) → 0 < k → n < 10 ^ k → digits (suc k) n ≡ digits k n
-digits_steady zero n h l = absurd (omega arith)
-digits_steady (suc zero) n h l = let t = lt-ltb n 10 l in rw t
-digits_steady (suc (suc k)) n h l =
-    let q = pow-succ' 10 (suc k) in
-    ap (λ (x : List ℕ). cond (ltb n 10) [] x ++ ((48 + n % 10) ∷ [])) (digits_steady (suc k) (n / 10) (omega arith) (omega arith))
-
-pub decimal_short : (n : ℕ) → n < 10 → decimal n ≡ (48 + n) ∷ []
+-- the number as the library prints it
+pub decimal_is : (n : ℕ) → n < 2 ^ 64 → Fmt.decimal n ≡ decimal n
 unfolding decimal
-decimal_short n h =
-    let t = lt-ltb n 10 h in let e : n % 10 ≡ n = mod-eq_of_lt h in rw (t, e)
+decimal_is n h = sym (decimal_from_appends digits appends 20 n h (length-decimal-le 20 n (omega arith) (omega arith) h))
+  where
+    appends : AppendsLastDigit digits
+    appends =
+        record {
+          one = λ k n l. let t = lt-ltb n 10 l in let e : n % 10 ≡ n = mod-eq_of_lt l in rw (t, e);
+          more = λ k n l. let t = le-ltb n 10 l in rw t;
+        }
 
-module _ (n : ℕ) (h : 10 ≤ n) (l : n < 18446744073709551616) where
-  rest : digits 19 (n / 10) ≡ decimal (n / 10)
-  unfolding decimal
-  rest = sym (digits_steady 19 (n / 10) (omega arith) (omega arith))
-
-  pub decimal_more : decimal n ≡ decimal (n / 10) ++ ((48 + n % 10) ∷ [])
-  unfolding decimal
-  decimal_more = let t = le-ltb n 10 h in rw t (ap (λ (x : List ℕ). x ++ ((48 + n % 10) ∷ [])) rest)
-
-  pub decimal_fits : length (decimal (n / 10)) ≤ 19
-  decimal_fits = rw rest at (digits_long 19 (n / 10))
-
-pub decimal_long : (n : ℕ) → length (decimal n) ≤ 20
-unfolding decimal
-decimal_long n = digits_long 20 n
-
--- a number's last digit, where it is the only one and where others stand before it
-pub number_short : (out : List ℕ) (at n d : ℕ) → n < 10 → d ≡ 48 + n % 10 → Puts out at 20 (decimal n) (set out at d) (at + 1)
-number_short out at n d h e =
-    let f : d ≡ 48 + n = e ∙ ap (λ (x : ℕ). 48 + x) (mod-eq_of_lt h) in
-    puts_within (puts_as (puts_byte out at d) (rw f (sym (decimal_short n h)))) (omega arith)
-
-module _ (out : List ℕ) (at n : ℕ) (h : 10 ≤ n) (l : n < 18446744073709551616) {mid : List ℕ} {k : ℕ} (x : Puts out at 20 (decimal (n / 10)) mid k) where
-  pub number_place : k + 1 ≤ at + 20
-  number_place = let e = x.next in let f = decimal_fits n h l in omega arith
-
-  pub number_more : (d : ℕ) → d ≡ 48 + n % 10 → Puts out at 20 (decimal n) (set mid k d) (k + 1)
-  number_more d e =
-      let same : decimal (n / 10) ++ (d ∷ []) ≡ decimal n = rw e (sym (decimal_more n h l)) in
-      let all = puts_as (puts_more (decimal (n / 10)) (d ∷ []) x (puts_byte mid k d)) same in
-      record { stands = all.stands; next = all.next; small = number_place }
+pub number_put : {out : List ℕ} {at : ℕ} {new : List ℕ} {r : ℕ} (n : ℕ) {text : List ℕ} → n < 2 ^ 64 → text ≡ Fmt.decimal n → Puts out at (length text) text new r → Puts out at 20 (decimal n) new r
+number_put n {text} h e x =
+    let short = length-decimal-le 20 n (omega arith) (omega arith) h in
+    puts_within (puts_as x (e ∙ decimal_is n h)) (omega (arith, ap length e))
 
 -- ---- text
 
-pub text_more : (out : List ℕ) (at : ℕ) {mid : List ℕ} (text : List ℕ) (i : ℕ) → i < length text → mid ≡ sets out at (take i text) → set mid (at + i) (get_or text i 0) ≡ sets out at (take (i + 1) text)
-text_more out at text i h q =
-    let long = length-take-le i text (omega arith) in
-    let e : at + i ≡ at + length (take i text) = omega arith in
-    rw (q, e, add-one i, take-suc text i 0 h) (sym (sets_append (take i text) (get_or text i 0 ∷ []) out at))
-
-pub text_whole : (out : List ℕ) (at : ℕ) {new : List ℕ} (text : List ℕ) (i : ℕ) → i ≡ length text → new ≡ sets out at (take i text) → Puts out at (length text) text new (at + i)
-text_whole out at text i e q =
-    record { stands = q ∙ ap (sets out at) (take_all i text (omega arith)); next = omega arith; small = omega arith }
+-- text copied to a place
+pub text_copied : (out : List ℕ) (at k : ℕ) (text : List ℕ) {copy : List ℕ} → at + length text ≤ length out → length text ≡ k → copy ≡ text → Puts out at (length text) text (put_mid at k out copy) (at + length text)
+text_copied out at k text {copy} h l e =
+    let whole : paste out at text (length text) ≡ sets out at text = rw (take_all (length text) text (omega arith)) (sym (sets-eq text out at h)) in
+    record { stands = put_mid-paste at k out copy text (length text) e l refl ∙ whole; next = refl; small = omega arith }
 
 -- ---- numbers of one line
 
@@ -131,19 +96,32 @@ numbers_more k (w ∷ ws) v =
     ∙ ap (λ (l : List ℕ). decimal w ++ (ending (length ws + suc k) ∷ []) ++ l) (numbers_more k ws v)
     ∙ sym (append_assoc (decimal w ++ (ending (length ws + suc k) ∷ [])) (numbers (suc k) ws) (decimal v ++ (ending k ∷ [])))
 
--- the next number of n
-pub number_step : {out : List ℕ} {at : ℕ} {mid new : List ℕ} {k r : ℕ} (n i : ℕ) (ws all : List ℕ) (v : ℕ) → i < n → all ≡ ws ++ (v ∷ [])
-    → Puts out at (21 * i) (numbers (n - i) ws) mid k → Puts mid k 21 (decimal v ++ (ending (n - 1 - i) ∷ [])) new r → Puts out at (21 * (i + 1)) (numbers (n - (i + 1)) all) new r
-number_step n i ws all v h e x y =
-    let z : n - 1 - i ≡ n - (i + 1) = omega arith in
-    let s : n - i ≡ suc (n - (i + 1)) = omega arith in
-    let same : numbers (n - i) ws ++ (decimal v ++ (ending (n - 1 - i) ∷ [])) ≡ numbers (n - (i + 1)) all = rw (z, s, e) (sym (numbers_more (n - (i + 1)) ws v)) in
-    puts_within (puts_as (puts_more (numbers (n - i) ws) (decimal v ++ (ending (n - 1 - i) ∷ [])) x y) same) (omega arith)
+-- a newline follows the last number, a space each other
+pub newline : (left : ℕ) → left ≡ 0 → 10 ∷ [] ≡ ending left ∷ []
+newline left h = rw h
 
-pub numbers_done : {out : List ℕ} {at : ℕ} {new : List ℕ} {r : ℕ} (n i : ℕ) (f : ℕ → List ℕ) → i ≡ n → Puts out at (21 * i) (numbers (n - i) (f i)) new r → Puts out at (21 * n) (numbers 0 (f n)) new r
-numbers_done n i f e x =
-    let z : n - i ≡ 0 = omega arith in
-    puts_within (puts_as x (rw (z, e))) (omega arith)
+pub spaced : (left : ℕ) → (left ≡ 0 → ⊥) → 32 ∷ [] ≡ ending left ∷ []
+spaced zero h = absurd (h refl)
+spaced (suc left) h = refl
+
+-- a number and what follows it
+pub ended : {out : List ℕ} {at : ℕ} {k r : ℕ} {mid new : List ℕ} (n left : ℕ) {e : List ℕ} → e ≡ ending left ∷ [] → Puts out at 20 (decimal n) mid k → Puts mid k (length e) e new r → Puts out at 21 (decimal n ++ (ending left ∷ [])) new r
+ended n left {e} q x y = puts_as (puts_within (puts_more (decimal n) e x y) (omega (arith, ap length q))) (ap (λ (b : List ℕ). decimal n ++ b) q)
+
+-- the next number of those from one place up to another
+pub number_step : {out : List ℕ} {at : ℕ} {mid new : List ℕ} {k r : ℕ} (ws : List ℕ) (from end i v : ℕ) → from ≤ i → i < end → end ≤ length ws → v ≡ get_or ws i 0
+    → Puts out at (21 * (i - from)) (numbers (end - i) (take (i - from) (drop from ws))) mid k → Puts mid k 21 (decimal v ++ (ending (end - 1 - i) ∷ [])) new r
+    → Puts out at (21 * (i + 1 - from)) (numbers (end - (i + 1)) (take (i + 1 - from) (drop from ws))) new r
+number_step ws from end i v l h f e x y =
+    let z : end - 1 - i ≡ end - (i + 1) = omega arith in
+    let s : end - i ≡ suc (end - (i + 1)) = omega arith in
+    let t : i + 1 - from ≡ suc (i - from) = omega arith in
+    let j : from + (i - from) ≡ i = omega arith in
+    let front = take (i - from) (drop from ws) in
+    let last : v ≡ get_or (drop from ws) (i - from) 0 = e ∙ ap (λ (n : ℕ). get_or ws n 0) (sym j) ∙ sym (get_or-drop from ws (i - from) 0) in
+    let here : take (i + 1 - from) (drop from ws) ≡ front ++ (v ∷ []) = rw (t, last) (take-suc (drop from ws) (i - from) 0 (omega (arith, length-drop from ws))) in
+    let same : numbers (end - i) front ++ (decimal v ++ (ending (end - 1 - i) ∷ [])) ≡ numbers (end - (i + 1)) (take (i + 1 - from) (drop from ws)) = rw (z, s, here) (sym (numbers_more (end - (i + 1)) front v)) in
+    puts_within (puts_as (puts_more (numbers (end - i) front) (decimal v ++ (ending (end - 1 - i) ∷ [])) x y) same) (omega arith)
 
 -- ---- lines
 
@@ -158,91 +136,150 @@ lines_more name n i ws = rw (add-one i) (go i ws)
         ∙ sym (append_assoc (line name (take n l)) (lines name n k (drop n l)) (line name (take n (drop (n * k) (drop n l)))))
         ∙ rw (drop-drop (n * k) n l, e)
 
-words_front : (b n k : ℕ) (bs : List ℕ) → n ≤ k → take n (words b k bs) ≡ words b n bs
-words_front b zero zero bs h = refl
-words_front b zero (suc k) bs h = refl
-words_front b (suc n) zero bs h = absurd (omega arith)
-words_front b (suc n) (suc k) bs h = ap (◌∷◌ (le_value (take b bs))) (words_front b n k (drop b bs) (omega arith))
-
-words_mid : (b n j k : ℕ) (bs : List ℕ) → j + n ≤ k → take n (drop j (words b k bs)) ≡ words b n (drop (b * j) bs)
-words_mid b n zero k bs h = rw (mul-zero b, drop_none bs, drop_none (words b k bs)) (words_front b n k bs (omega arith))
-words_mid b n (suc j) zero bs h = absurd (omega arith)
-words_mid b n (suc j) (suc k) bs h =
-    let e : b * suc j ≡ b + b * j = omega (arith, mul-suc b j) in
-    words_mid b n j k (drop b bs) (omega arith) ∙ rw (drop-drop (b * j) b bs, e)
-
-drop_below : (k : ℕ) (ws : List ℕ) → drop k (below_p ws) ≡ below_p (drop k ws)
-drop_below zero [] = refl
-drop_below zero (w ∷ ws) = refl
-drop_below (suc k) [] = refl
-drop_below (suc k) (w ∷ ws) = drop_below k ws
-
--- the words of a line, in the table and in the file
-pub line_words : (n j k : ℕ) (file : List ℕ) (from at : ℕ) → j + n ≤ k → at ≡ from + 4 * j → words 4 n (drop at file) ≡ take n (drop j (words 4 k (drop from file)))
-line_words n j k file from at h e =
-    sym (words_mid 4 n j k (drop from file) h ∙ ap (words 4 n) (drop-drop (4 * j) from file ∙ ap (λ (i : ℕ). drop i file) (sym e)))
-
-pub line_limbs : (n j k : ℕ) (file : List ℕ) (from at : ℕ) → j + n ≤ k → at ≡ from + 8 * j → below_p (words 8 n (drop at file)) ≡ take n (drop j (below_p (words 8 k (drop from file))))
-line_limbs n j k file from at h e =
-    sym
-    (ap (take n) (drop_below j (words 8 k (drop from file)))
-    ∙ take_below n (drop j (words 8 k (drop from file)))
-    ∙ ap below_p (words_mid 8 n j k (drop from file) h ∙ ap (words 8 n) (drop-drop (8 * j) from file ∙ ap (λ (i : ℕ). drop i file) (sym e))))
+-- room for all lines has room for the next
+pub line_room : (w i k : ℕ) → i < k → w * i + w ≤ w * k
+line_room w i k h = omega (arith, mul-suc w i, mul-le-mul_left w (let l : suc i ≤ k = omega arith in l))
 
 -- the next line: its name, then its numbers
-pub line_step : {out : List ℕ} {at : ℕ} {mid text new : List ℕ} {k l r most : ℕ} (name : List ℕ) (n i j : ℕ) (ws part : List ℕ) (a b : ℕ) → j ≡ n * i → part ≡ take n (drop j ws)
-    → Puts out at most (lines name n i ws) mid k → Puts mid k a name text l → Puts text l b (numbers 0 part) new r → Puts out at (most + (a + b)) (lines name n (i + 1) ws) new r
-line_step name n i j ws part a b e f x y z =
-    let same : line name part ≡ line name (take n (drop (n * i) ws)) = rw (f, e) in
-    puts_as (puts_more (lines name n i ws) (line name part) x (puts_more name (numbers 0 part) y z)) (ap (λ (t : List ℕ). lines name n i ws ++ t) same ∙ sym (lines_more name n i ws))
+pub line_step : {out : List ℕ} {at : ℕ} {mid text new : List ℕ} {k l r a b : ℕ} (name : List ℕ) (n i : ℕ) (ws : List ℕ) → b ≡ n
+    → Puts out at ((a + 21 * n) * i) (lines name n i ws) mid k → Puts mid k a name text l → Puts text l (21 * b) (numbers 0 (take b (drop (n * i) ws))) new r
+    → Puts out at ((a + 21 * n) * (i + 1)) (lines name n (i + 1) ws) new r
+line_step {a = a} {b = b} name n i ws q x y z =
+    let part = take n (drop (n * i) ws) in
+    let e : (a + 21 * n) * (i + 1) ≡ (a + 21 * n) * i + (a + 21 * n) = rw (add-one i) (omega (arith, mul-suc (a + 21 * n) i)) in
+    rw e (puts_as (puts_more (lines name n i ws) (line name part) x (puts_more name (numbers 0 part) y (rw q at z))) (sym (lines_more name n i ws)))
 
--- a space follows where numbers follow
-pub spaced : (left : ℕ) → (left ≡ 0 → ⊥) → 32 ≡ ending left
-spaced zero h = absurd (h refl)
-spaced (suc left) h = refl
+-- ---- tables in the file
 
--- a number and what follows it
-pub ended : {out : List ℕ} {at : ℕ} {k e : ℕ} {mid : List ℕ} (text : List ℕ) (left : ℕ) → e ≡ ending left → Puts out at 20 text mid k → Puts out at 21 (text ++ (ending left ∷ [])) (set mid k e) (k + 1)
-ended {out} {at} {k} {e} {mid} text left q x =
-    puts_as (puts_more text (e ∷ []) x (puts_byte mid k e)) (ap (λ (b : ℕ). text ++ (b ∷ [])) q)
+-- word i of a table
+pub word_at : (b k i : ℕ) (bs : List ℕ) → i < k → get_or (words b k bs) i 0 ≡ le_value (take b (drop (b * i) bs))
+word_at b zero i bs h = absurd (omega arith)
+word_at b (suc k) zero bs h = rw (mul-zero b, drop_none bs)
+word_at b (suc k) (suc i) bs h =
+    let e : b * suc i ≡ b + b * i = omega (arith, mul-suc b i) in
+    word_at b k i (drop b bs) (omega arith) ∙ rw (drop-drop (b * i) b bs, e)
 
--- no lines yet, and all of them
-pub lines_done : {out : List ℕ} {at : ℕ} {new : List ℕ} {r : ℕ} (name : List ℕ) (n most count i : ℕ) (ws : List ℕ) → i ≡ count → Puts out at (most * i) (lines name n i ws) new r → Puts out at (most * count) (lines name n count ws) new r
-lines_done {out} {at} {new} {r} name n most count i ws e x = rw e at x
+-- the numbers of a table
+pub word_table_long : (bs : List ℕ) → length (words 4 (length bs / 4) bs) ≡ length bs / 4
+word_table_long bs = words_long 4 (length bs / 4) bs
+
+pub constant_table_long : (bs : List ℕ) → length (below_p (words 8 (length bs / 8) bs)) ≡ length bs / 8
+constant_table_long bs = length-map (words 8 (length bs / 8) bs) (λ w. w % p) ∙ words_long 8 (length bs / 8) bs
+
+-- words read no further than they go
+words_in : (b k m : ℕ) (bs : List ℕ) → m ≡ b * k → words b k (take m bs) ≡ words b k bs
+words_in b k m bs h = rw h (go k bs)
+  where
+    go : (j : ℕ) (l : List ℕ) → words b j (take (b * j) l) ≡ words b j l
+    go zero l = refl
+    go (suc j) l =
+        let e : b * suc j ≡ b + b * j = omega (arith, mul-suc b j) in
+        rw (e, take-take b (b + b * j) l (omega arith), drop-take b (b * j) l) (ap (◌∷◌ (le_value (take b l))) (go j (drop b l)))
+
+-- the file cut up from the front
+module _ {file : List ℕ} {c : BlobCounts} (h : Holds file c) {rest₁ rest₂ rest₃ trailer : List ℕ}
+    (after_nodes : rest₁ ≡ drop (16 * c.nodes) file) (after_bases : rest₂ ≡ drop (8 * c.bases) rest₁)
+    (after_exts : rest₃ ≡ drop (24 * c.exts) rest₂) (after_roots : trailer ≡ drop (4 * c.roots) rest₃) where
+  bases_at : rest₂ ≡ drop (16 * c.nodes + 8 * c.bases) file
+  bases_at = rw (after_bases, after_nodes) (drop-drop (8 * c.bases) (16 * c.nodes) file)
+
+  exts_at : rest₃ ≡ drop (16 * c.nodes + 8 * c.bases + 24 * c.exts) file
+  exts_at = rw (after_exts, bases_at) (drop-drop (24 * c.exts) (16 * c.nodes + 8 * c.bases) file)
+
+  trailer_at : trailer ≡ drop (length file - 32) file
+  trailer_at =
+      let whole = h.whole in
+      let e : 16 * c.nodes + 8 * c.bases + 24 * c.exts + 4 * c.roots ≡ length file - 32 = omega arith in
+      rw (after_roots, exts_at) (drop-drop (4 * c.roots) (16 * c.nodes + 8 * c.bases + 24 * c.exts) file ∙ ap (λ (i : ℕ). drop i file) e)
+
+  pub cut_up : {s : Sections} → s.nodes.now ≡ take (16 * c.nodes) file → s.bases.now ≡ take (8 * c.bases) rest₁ → s.exts.now ≡ take (24 * c.exts) rest₂
+      → s.roots.now ≡ take (4 * c.roots) rest₃ → s.counts.now ≡ take 28 trailer → SectionsOf file c s
+  cut_up nodes bases exts roots counts =
+      let whole = h.whole in
+      let long₁ : length rest₁ ≡ length file - 16 * c.nodes = rw after_nodes (length-drop (16 * c.nodes) file) in
+      let long₂ : length rest₂ ≡ length file - (16 * c.nodes + 8 * c.bases) = rw bases_at (length-drop (16 * c.nodes + 8 * c.bases) file) in
+      let long₃ : length rest₃ ≡ length file - (16 * c.nodes + 8 * c.bases + 24 * c.exts) = rw exts_at (length-drop (16 * c.nodes + 8 * c.bases + 24 * c.exts) file) in
+      let long₄ : length trailer ≡ length file - (length file - 32) = rw trailer_at (length-drop (length file - 32) file) in
+      record {
+        nodes_long = ap length nodes ∙ length-take-le (16 * c.nodes) file (omega arith);
+        bases_long = ap length bases ∙ length-take-le (8 * c.bases) rest₁ (omega arith);
+        exts_long = ap length exts ∙ length-take-le (24 * c.exts) rest₂ (omega arith);
+        roots_long = ap length roots ∙ length-take-le (4 * c.roots) rest₃ (omega arith);
+        counts_long = ap length counts ∙ length-take-le 28 trailer (omega arith);
+        nodes_are = rw nodes (words_in 4 (4 * c.nodes) (16 * c.nodes) file (omega arith));
+        bases_are = rw bases (ap below_p (words_in 8 c.bases (8 * c.bases) rest₁ refl ∙ ap (words 8 c.bases) after_nodes));
+        exts_are = rw exts (ap below_p (words_in 8 (3 * c.exts) (24 * c.exts) rest₂ (omega arith) ∙ ap (words 8 (3 * c.exts)) bases_at));
+        roots_are = rw roots (words_in 4 c.roots (4 * c.roots) rest₃ refl ∙ ap (words 4 c.roots) exts_at);
+        counts_are = rw counts (words_in 4 7 28 trailer refl ∙ ap (words 4 7) trailer_at ∙ ap (take 7) (trailer_words_lem file) ∙ ap counts_of (sym h.counts_are));
+      }
 
 -- ---- the whole
 
--- the trailer's first seven words are the counts
-seven : (file : List ℕ) → words 4 7 (drop (length file - 32) file) ≡ counts_of (counts_in file)
-seven file = ap (take 7) (trailer_words_lem file)
+-- the numbers of each section, and room for its lines
+pub record Counted (c : BlobCounts) (s : Sections) : Type 0 where
+  pub counts : length (words 4 (length s.counts.now / 4) s.counts.now) / 7 ≡ 1
+  pub nodes : length (words 4 (length s.nodes.now / 4) s.nodes.now) / 4 ≡ c.nodes
+  pub bases : length (below_p (words 8 (length s.bases.now / 8) s.bases.now)) / 1 ≡ c.bases
+  pub exts : length (below_p (words 8 (length s.exts.now / 8) s.exts.now)) / 3 ≡ c.exts
+  pub roots : length (words 4 (length s.roots.now / 4) s.roots.now) / 1 ≡ c.roots
+  pub short : 89 * c.nodes + 27 * c.bases + 67 * c.exts + 26 * c.roots ≤ 524288 - 156
 
-pub blob_listed : (file : List ℕ) (c : BlobCounts) {room : ℕ} → Listable file c room → {out o₁ o₂ o₃ o₄ o₅ o₆ o₇ : List ℕ} {k₁ k₂ k₃ k₄ k₅ k₆ k₇ : ℕ}
-    → Puts out 0 5 blob_name o₁ k₁
-    → Puts o₁ k₁ 147 (numbers 0 (words 4 7 (drop (length file - 32) file))) o₂ k₂
-    → Puts o₂ k₂ (89 * c.nodes) (lines node_name 4 c.nodes (words 4 (4 * c.nodes) (drop 0 file))) o₃ k₃
-    → Puts o₃ k₃ (27 * c.bases) (lines const_name 1 c.bases (tables_in c file).bases) o₄ k₄
-    → Puts o₄ k₄ (67 * c.exts) (lines ext_name 3 c.exts (tables_in c file).exts) o₅ k₅
-    → Puts o₅ k₅ (26 * c.roots) (lines root_name 1 c.roots (tables_in c file).roots) o₆ k₆
-    → Puts o₆ k₆ 4 end_line o₇ k₇
-    → Puts out 0 524288 (listing c (tables_in c file)) o₇ k₇
-unfolding listing
-blob_listed file c l p₁ p₂ p₃ p₄ p₅ p₆ p₇ =
-    let first : numbers 0 (words 4 7 (drop (length file - 32) file)) ≡ numbers 0 (counts_of c) = ap (numbers 0) (seven file ∙ ap counts_of (sym l.counts_are)) in
-    let nodes : lines node_name 4 c.nodes (words 4 (4 * c.nodes) (drop 0 file)) ≡ lines node_name 4 c.nodes (tables_in c file).nodes = ap (λ (f : List ℕ). lines node_name 4 c.nodes (words 4 (4 * c.nodes) f)) (drop_none file) in
-    let t = tables_in c file in
-    let a = line blob_name (counts_of c) in
-    let b = a ++ lines node_name 4 c.nodes t.nodes in
-    let d = b ++ lines const_name 1 c.bases t.bases in
-    let e = d ++ lines ext_name 3 c.exts t.exts in
-    let f = e ++ lines root_name 1 c.roots t.roots in
-    let q₂ = puts_more blob_name (numbers 0 (counts_of c)) p₁ (puts_as p₂ first) in
-    let q₃ = puts_more a (lines node_name 4 c.nodes t.nodes) q₂ (puts_as p₃ nodes) in
-    let q₄ = puts_more b (lines const_name 1 c.bases t.bases) q₃ p₄ in
-    let q₅ = puts_more d (lines ext_name 3 c.exts t.exts) q₄ p₅ in
-    let q₆ = puts_more e (lines root_name 1 c.roots t.roots) q₅ p₆ in
+pub counted : {file : List ℕ} {c : BlobCounts} {room : ℕ} {s : Sections} → Listable file c room → SectionsOf file c s → Counted c s
+counted {s = s} l p =
     let whole = l.whole in
     let few = l.few in
-    puts_within (puts_more f end_line q₆ p₇) (omega arith)
+    record {
+      counts = omega (arith, word_table_long s.counts.now);
+      nodes = omega (arith, word_table_long s.nodes.now);
+      bases = omega (arith, constant_table_long s.bases.now);
+      exts = omega (arith, constant_table_long s.exts.now);
+      roots = omega (arith, word_table_long s.roots.now);
+      short = omega arith;
+    }
+
+-- all lines of a table
+lines_of : {out : List ℕ} {at : ℕ} {new : List ℕ} {r : ℕ} (name : List ℕ) (w n k : ℕ) {ws vs : List ℕ} → ws ≡ vs → length ws / n ≡ k → Puts out at (w * (length ws / n)) (lines name n (length ws / n) ws) new r → Puts out at (w * k) (lines name n k vs) new r
+lines_of name w n k e f x = rw e at (rw f at x)
+
+module _ {file : List ℕ} {c : BlobCounts} {room : ℕ} {s : Sections} (l : Listable file c room) (p : SectionsOf file c s) where
+  counts : words 4 (length s.counts.now / 4) s.counts.now ≡ counts_of c
+  counts = let z : length s.counts.now / 4 ≡ 7 = omega (arith, p.counts_long) in rw z p.counts_are
+
+  nodes : words 4 (length s.nodes.now / 4) s.nodes.now ≡ (tables_in c file).nodes
+  nodes = let z : length s.nodes.now / 4 ≡ 4 * c.nodes = omega (arith, p.nodes_long) in rw z p.nodes_are
+
+  bases : below_p (words 8 (length s.bases.now / 8) s.bases.now) ≡ (tables_in c file).bases
+  bases = let z : length s.bases.now / 8 ≡ c.bases = omega (arith, p.bases_long) in rw z p.bases_are
+
+  exts : below_p (words 8 (length s.exts.now / 8) s.exts.now) ≡ (tables_in c file).exts
+  exts = let z : length s.exts.now / 8 ≡ 3 * c.exts = omega (arith, p.exts_long) in rw z p.exts_are
+
+  roots : words 4 (length s.roots.now / 4) s.roots.now ≡ (tables_in c file).roots
+  roots = let z : length s.roots.now / 4 ≡ c.roots = omega (arith, p.roots_long) in rw z p.roots_are
+
+  pub blob_listed : {out o₁ o₂ o₃ o₄ o₅ o₆ : List ℕ} {at k₁ k₂ k₃ k₄ k₅ k₆ : ℕ}
+      → Puts out at (152 * (length (words 4 (length s.counts.now / 4) s.counts.now) / 7)) (lines blob_name 7 (length (words 4 (length s.counts.now / 4) s.counts.now) / 7) (words 4 (length s.counts.now / 4) s.counts.now)) o₁ k₁
+      → Puts o₁ k₁ (89 * (length (words 4 (length s.nodes.now / 4) s.nodes.now) / 4)) (lines node_name 4 (length (words 4 (length s.nodes.now / 4) s.nodes.now) / 4) (words 4 (length s.nodes.now / 4) s.nodes.now)) o₂ k₂
+      → Puts o₂ k₂ (27 * (length (below_p (words 8 (length s.bases.now / 8) s.bases.now)) / 1)) (lines const_name 1 (length (below_p (words 8 (length s.bases.now / 8) s.bases.now)) / 1) (below_p (words 8 (length s.bases.now / 8) s.bases.now))) o₃ k₃
+      → Puts o₃ k₃ (67 * (length (below_p (words 8 (length s.exts.now / 8) s.exts.now)) / 3)) (lines ext_name 3 (length (below_p (words 8 (length s.exts.now / 8) s.exts.now)) / 3) (below_p (words 8 (length s.exts.now / 8) s.exts.now))) o₄ k₄
+      → Puts o₄ k₄ (26 * (length (words 4 (length s.roots.now / 4) s.roots.now) / 1)) (lines root_name 1 (length (words 4 (length s.roots.now / 4) s.roots.now) / 1) (words 4 (length s.roots.now / 4) s.roots.now)) o₅ k₅
+      → Puts o₅ k₅ 4 end_line o₆ k₆
+      → Puts out at 524288 (listing c (tables_in c file)) o₆ k₆
+  unfolding listing
+  blob_listed p₁ p₂ p₃ p₄ p₅ p₆ =
+      let n = counted l p in
+      let t = tables_in c file in
+      let a = line blob_name (counts_of c) in
+      let b = a ++ lines node_name 4 c.nodes t.nodes in
+      let d = b ++ lines const_name 1 c.bases t.bases in
+      let e = d ++ lines ext_name 3 c.exts t.exts in
+      let f = e ++ lines root_name 1 c.roots t.roots in
+      let q₁ = puts_as (lines_of blob_name 152 7 1 counts n.counts p₁) (append-nil a) in
+      let q₂ = puts_more a (lines node_name 4 c.nodes t.nodes) q₁ (lines_of node_name 89 4 c.nodes nodes n.nodes p₂) in
+      let q₃ = puts_more b (lines const_name 1 c.bases t.bases) q₂ (lines_of const_name 27 1 c.bases bases n.bases p₃) in
+      let q₄ = puts_more d (lines ext_name 3 c.exts t.exts) q₃ (lines_of ext_name 67 3 c.exts exts n.exts p₄) in
+      let q₅ = puts_more e (lines root_name 1 c.roots t.roots) q₄ (lines_of root_name 26 1 c.roots roots n.roots p₅) in
+      puts_within (puts_more f end_line q₅ p₆) (omega (arith, n.short))
 
 module _ (file : List ℕ) {out new : List ℕ} {r : ℕ} where
   pub list_long : 65536 < length file → Puts out 0 29 (line refused_name (1 ∷ [])) new r → Puts out 0 524288 (blob_list file) new r
@@ -256,7 +293,3 @@ module _ (file : List ℕ) {out new : List ℕ} {r : ℕ} where
   pub list_framed : length file ≤ 65536 → {b : Bool} → b ≡ bad_framing file → b ≡ false → {c : BlobCounts} → c ≡ counts_in file → Puts out 0 524288 (listing c (tables_in c file)) new r → Puts out 0 524288 (blob_list file) new r
   unfolding blob_list
   list_framed h e k q x = puts_as x (rw (le-ltb _ _ h, sym e ∙ k) (ap (λ (y : BlobCounts). listing y (tables_in y file)) q))
-
-pub listable : (file : List ℕ) {b : Bool} → b ≡ bad_framing file → b ≡ false → {c : BlobCounts} → c ≡ counts_in file → length file ≤ 65536 → {room : ℕ} → 524288 ≤ room → Listable file c room
-listable file e k q h r =
-    record { counts_are = q; whole = (framed file (sym e ∙ k)).whole ∙ ap size (sym q); few = h; room_long = r }

@@ -1,11 +1,13 @@
 -- What `blob-list` prints of a file: the listing of the blob that it holds, or one line with the number of a refusal.
 -- Text is bytes.
 -- Assumes nothing.
-use Rattle.std.specs.Prelude.{cond, List, [], ◌∷◌, ◌++◌, ◌≡◌, ℕ, zero, suc, ◌+◌, ◌/◌, ◌%◌, ◌≤◌, ltb, length, take, drop}
+use Rattle.std.specs.Prelude.{cond, List, [], ◌∷◌, ◌++◌, ◌≡◌, ℕ, zero, suc, ◌+◌, ◌/◌, ◌%◌, ◌≤◌, ltb, length, take, drop, ◌*◌}
 use Rattle.std.proofs.lemmas.List.Edits.{sets}
 use Rattle.blob_rules.specs.declared.blob.BlobCounts.{BlobCounts}
-use Rattle.stored_parts.specs.Form.{Tables, size, counts_in, bad_framing, tables_in}
+use Rattle.stored_parts.specs.Form.{Tables, words, below_p, size, counts_in, bad_framing, tables_in}
 use Rattle.stored.specs.Answer.{counts_of}
+use Rattle.listing.specs.declared.listing.Sections.{Sections}
+use Rattle.listing.specs.declared.listing.Text.{Text}
 
 -- the decimal digits of a number that has at most k
 abbrev pub digits : ℕ → ℕ → List ℕ
@@ -91,9 +93,33 @@ pub record Puts (out : List ℕ) (at most : ℕ) (text out' : List ℕ) (r : ℕ
   pub next : r ≡ at + length text
   pub small : r ≤ at + most
 
+-- text put where a text ends, in the same room
+pub record Adds (most : ℕ) (text : List ℕ) (old new : Text) : Type 0 where
+  pub room : new.room.ghost_name ≡ old.room.ghost_name
+  pub puts : Puts old.room.now old.len most text new.room.now new.len
+
 -- a file that holds a blob with these counts, and a room for its listing: eight bytes for each of the largest file's
 pub record Listable (file : List ℕ) (c : BlobCounts) (room : ℕ) : Type 0 where
   pub counts_are : c ≡ counts_in file
   pub whole : length file ≡ size c
   pub few : length file ≤ 65536
   pub room_long : 524288 ≤ room
+
+-- a file of at most 65,536 bytes that holds a blob with these counts
+pub record Holds (file : List ℕ) (c : BlobCounts) : Type 0 where
+  pub counts_are : c ≡ counts_in file
+  pub whole : length file ≡ size c
+  pub few : length file ≤ 65536
+
+-- where its tables and its counts stand
+pub record SectionsOf (file : List ℕ) (c : BlobCounts) (s : Sections) : Type 0 where
+  pub nodes_long : length s.nodes.now ≡ 16 * c.nodes
+  pub bases_long : length s.bases.now ≡ 8 * c.bases
+  pub exts_long : length s.exts.now ≡ 24 * c.exts
+  pub roots_long : length s.roots.now ≡ 4 * c.roots
+  pub counts_long : length s.counts.now ≡ 28
+  pub nodes_are : words 4 (4 * c.nodes) s.nodes.now ≡ (tables_in c file).nodes
+  pub bases_are : below_p (words 8 c.bases s.bases.now) ≡ (tables_in c file).bases
+  pub exts_are : below_p (words 8 (3 * c.exts) s.exts.now) ≡ (tables_in c file).exts
+  pub roots_are : words 4 c.roots s.roots.now ≡ (tables_in c file).roots
+  pub counts_are : words 4 7 s.counts.now ≡ counts_of c

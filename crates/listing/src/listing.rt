@@ -1,173 +1,166 @@
 // The listing of a blob that is stored in form A, as `blob-list` prints it.
-ghost use Rattle.std.specs.Prelude.{◌∷◌, [], ◌++◌, ◌≡◌, ◌+◌, ◌*◌, ◌%◌, ◌≤◌, length, drop};
+ghost use Rattle.std.specs.Prelude.{◌∷◌, [], ◌++◌, ◌≡◌, ℕ, List, ◌+◌, ◌-◌, ◌*◌, ◌/◌, ◌<◌, ◌≤◌, length, get_or, take, drop};
 ghost use Rattle.stored_parts.specs.Form.{words, below_p, tables_in};
-ghost use Rattle.listing.specs.Listing.{decimal, ending, numbers, line, lines, node_name, const_name, ext_name, root_name, refused_name, listing, blob_list, Listable, Puts};
+ghost use Rattle.listing.specs.Listing.{decimal, ending, numbers, line, lines, refused_name, listing, blob_list, Listable, Holds, SectionsOf, Adds, Puts};
 
 use blob_rules::blob::BlobCounts;
 use field::goldilocks::Fp;
-use little_endian::bytes::{u32_at, u64_at};
-use stored_parts::form::TRAILER_BYTES;
+use itoa::Buffer;
+use little_endian::bytes::Word;
 use stored_parts::reading::{bad_framing, counts_in};
 
-// Each put writes at a place and answers the place after it.
-fn put_text(text: &[u8], out: &mut [u8], at: usize) -> usize
-    requires { at + length text.now ≤ length out.old }
-    ensures { Puts out.old at (length text.now) text.now out.new result }
-{
-    let mut i: usize = 0;
-    while i < text.len() {
-        out[at + i] = text[i];
-        i += 1;
+// Numbers that stand in a file.
+trait Table {
+    ghost numbers: { Self → List ℕ };
+
+    fn len(&self) -> usize
+        ensures { result ≡ length (numbers self.now) };
+
+    fn number(&self, i: usize) -> u64
+        requires { i < length (numbers self.now) }
+        ensures { result ≡ get_or (numbers self.now) i 0 };
+}
+
+// Words of 4 bytes.
+#[derive(Drop)]
+struct WordTable<'a>(&'a [u8]);
+
+impl Table for WordTable<'_> {
+    ghost numbers = { λ t. words 4 (length t.0.now / 4) t.0.now };
+
+    fn len(&self) -> usize {
+        self.0.len() / 4
     }
-    at + i
-}
 
-fn digit(n: u64) -> u8
-    ensures { result ≡ 48 + n % 10 }
-{
-    48 + (n % 10) as u8
-}
-
-// The digits before the last, then the last.
-fn put_number(n: u64, out: &mut [u8], at: usize) -> usize
-    requires { at + 20 ≤ length out.old }
-    ensures { Puts out.old at 20 (decimal n) out.new result }
-{
-    if n < 10 {
-        out[at] = digit(n);
-        return at + 1;
+    fn number(&self, i: usize) -> u64 {
+        u64::from(u32::read_at(self.0, 4 * i))
     }
-    let last = put_number(n / 10, out, at);
-    out[last] = digit(n);
-    last + 1
-}
-
-// After a number that `left` more follow.
-fn ending_of(left: usize) -> u8
-    ensures { result ≡ ending left }
-{
-    if left == 0 { b'\n' } else { b' ' }
-}
-
-fn put_ended(n: u64, left: usize, out: &mut [u8], at: usize) -> usize
-    requires { at + 21 ≤ length out.old }
-    ensures { Puts out.old at 21 (decimal n ++ (ending left ∷ [])) out.new result }
-{
-    let end = put_number(n, out, at);
-    out[end] = ending_of(left);
-    end + 1
-}
-
-// Words of 4 bytes from a place of the file on, as the numbers of a line.
-fn put_words(file: &[u8], from: usize, n: usize, out: &mut [u8], at: usize) -> usize
-    requires { (from + 4 * n ≤ length file.now) × (at + 21 * n ≤ length out.old) }
-    ensures { Puts out.old at (21 * n) (numbers 0 (words 4 n (drop from file.now))) out.new result }
-{
-    let mut i: usize = 0;
-    let mut end = at;
-    while i < n {
-        let word = u32_at(file, from + 4 * i);
-        end = put_ended(word as u64, n - 1 - i, &mut out[..], end);
-        i += 1;
-    }
-    end
 }
 
 // Words of 8 bytes, put below p.
-fn put_limbs(file: &[u8], from: usize, n: usize, out: &mut [u8], at: usize) -> usize
-    requires { (from + 8 * n ≤ length file.now) × (at + 21 * n ≤ length out.old) }
-    ensures { Puts out.old at (21 * n) (numbers 0 (below_p (words 8 n (drop from file.now)))) out.new result }
-{
-    let mut i: usize = 0;
-    let mut end = at;
-    while i < n {
-        let limb = Fp::reduce(u64_at(file, from + 8 * i));
-        end = put_ended(limb, n - 1 - i, &mut out[..], end);
-        i += 1;
+#[derive(Drop)]
+struct ConstantTable<'a>(&'a [u8]);
+
+impl Table for ConstantTable<'_> {
+    ghost numbers = { λ t. below_p (words 8 (length t.0.now / 8) t.0.now) };
+
+    fn len(&self) -> usize {
+        self.0.len() / 8
     }
-    end
-}
 
-// A line has at most so many bytes: its name, and 21 for each number.
-fn list_nodes(file: &[u8], from: usize, count: usize, out: &mut [u8], at: usize) -> usize
-    requires { (from + 16 * count ≤ length file.now) × (at + 89 * count ≤ length out.old) }
-    ensures { Puts out.old at (89 * count) (lines node_name 4 count (words 4 (4 * count) (drop from file.now))) out.new result }
-{
-    let mut i: usize = 0;
-    let mut end = at;
-    while i < count {
-        let start = put_text(b"node ", &mut out[..], end);
-        end = put_words(file, from + 16 * i, 4, &mut out[..], start);
-        i += 1;
+    fn number(&self, i: usize) -> u64 {
+        Fp::reduce(u64::read_at(self.0, 8 * i))
     }
-    end
 }
 
-fn list_consts(file: &[u8], from: usize, count: usize, out: &mut [u8], at: usize) -> usize
-    requires { (from + 8 * count ≤ length file.now) × (at + 27 * count ≤ length out.old) }
-    ensures { Puts out.old at (27 * count) (lines const_name 1 count (below_p (words 8 count (drop from file.now)))) out.new result }
-{
-    let mut i: usize = 0;
-    let mut end = at;
-    while i < count {
-        let start = put_text(b"const ", &mut out[..], end);
-        end = put_limbs(file, from + 8 * i, 1, &mut out[..], start);
-        i += 1;
+// A blob's parts in its file: the bytes of each table, and those of the counts.
+#[derive(Drop)]
+struct Sections<'a> {
+    nodes: &'a [u8],
+    bases: &'a [u8],
+    exts: &'a [u8],
+    roots: &'a [u8],
+    counts: &'a [u8],
+}
+
+impl<'a> Sections<'a> {
+    // The counts are the trailer's first seven words.
+    fn of(file: &'a [u8], c: BlobCounts) -> Sections<'a>
+        requires { Holds file.now c }
+        ensures { SectionsOf file.now c result }
+    {
+        let (nodes, rest) = file.split_at(16 * (c.nodes as usize));
+        let (bases, rest) = rest.split_at(8 * (c.bases as usize));
+        let (exts, rest) = rest.split_at(24 * (c.exts as usize));
+        let (roots, trailer) = rest.split_at(4 * (c.roots as usize));
+        let (counts, _) = trailer.split_at(28);
+        Sections {
+            nodes,
+            bases,
+            exts,
+            roots,
+            counts,
+        }
     }
-    end
 }
 
-fn list_exts(file: &[u8], from: usize, count: usize, out: &mut [u8], at: usize) -> usize
-    requires { (from + 24 * count ≤ length file.now) × (at + 67 * count ≤ length out.old) }
-    ensures { Puts out.old at (67 * count) (lines ext_name 3 count (below_p (words 8 (3 * count) (drop from file.now)))) out.new result }
-{
-    let mut i: usize = 0;
-    let mut end = at;
-    while i < count {
-        let start = put_text(b"ext ", &mut out[..], end);
-        end = put_limbs(file, from + 24 * i, 3, &mut out[..], start);
-        i += 1;
+// Text that stands in a room, from its start up to a length.
+#[derive(Drop)]
+struct Text<'a> {
+    room: &'a mut [u8],
+    len: usize,
+}
+
+impl Text<'_> {
+    fn put(&mut self, text: &[u8])
+        requires { self.old.len + length text.now ≤ length self.old.room.now }
+        ensures { Adds (length text.now) text.now self.old self.new }
+    {
+        let end = self.len + text.len();
+        self.room[self.len..end].copy_from_slice(text);
+        self.len = end;
     }
-    end
-}
 
-fn list_roots(file: &[u8], from: usize, count: usize, out: &mut [u8], at: usize) -> usize
-    requires { (from + 4 * count ≤ length file.now) × (at + 26 * count ≤ length out.old) }
-    ensures { Puts out.old at (26 * count) (lines root_name 1 count (words 4 count (drop from file.now))) out.new result }
-{
-    let mut i: usize = 0;
-    let mut end = at;
-    while i < count {
-        let start = put_text(b"root ", &mut out[..], end);
-        end = put_words(file, from + 4 * i, 1, &mut out[..], start);
-        i += 1;
+    fn put_number(&mut self, n: u64)
+        requires { self.old.len + 20 ≤ length self.old.room.now }
+        ensures { Adds 20 (decimal n) self.old self.new }
+    {
+        self.put(Buffer::new().format(n).as_bytes());
     }
-    end
-}
 
-fn put_refused(number: u64, out: &mut [u8]) -> usize
-    requires { 29 ≤ length out.old }
-    ensures { Puts out.old 0 29 (line refused_name (number ∷ [])) out.new result }
-{
-    let start = put_text(b"refused ", out, 0);
-    put_ended(number, 0, out, start)
-}
+    // A number that `left` more follow: a newline ends the last.
+    fn put_ended(&mut self, n: u64, left: usize)
+        requires { self.old.len + 21 ≤ length self.old.room.now }
+        ensures { Adds 21 (decimal n ++ (ending left ∷ [])) self.old self.new }
+    {
+        self.put_number(n);
+        self.put(if left == 0 { b"\n" } else { b" " });
+    }
 
-// The counts are the trailer's first seven words.
-fn list_blob(file: &[u8], c: BlobCounts, out: &mut [u8]) -> usize
-    requires { Listable file.now c (length out.old) }
-    ensures { Puts out.old 0 524288 (listing c (tables_in c file.now)) out.new result }
-{
-    let n = c.nodes as usize;
-    let b = c.bases as usize;
-    let x = c.exts as usize;
-    let named = put_text(b"blob ", out, 0);
-    let counts = put_words(file, file.len() - TRAILER_BYTES, 7, out, named);
-    let nodes = list_nodes(file, 0, n, out, counts);
-    let bases = list_consts(file, 16 * n, b, out, nodes);
-    let exts = list_exts(file, 16 * n + 8 * b, x, out, bases);
-    let roots = list_roots(file, 16 * n + 8 * b + 24 * x, c.roots as usize, out, exts);
-    put_text(b"end\n", out, roots)
+    // A table's numbers from one place up to another, as those that end a line.
+    fn put_numbers<T: Table>(&mut self, table: &T, from: usize, end: usize)
+        requires in_table { (from ≤ end) × (end ≤ length (T.numbers table.now)) }
+        requires room { self.old.len + 21 * (end - from) ≤ length self.old.room.now }
+        ensures { Adds (21 * (end - from)) (numbers 0 (take (end - from) (drop from (T.numbers table.now)))) self.old self.new }
+    {
+        for i in from..end {
+            self.put_ended(table.number(i), end - 1 - i);
+        }
+    }
+
+    // A table's lines: in each a name, and then the next n numbers.
+    fn put_lines<T: Table>(&mut self, name: &[u8], n: usize, table: &T)
+        requires some { 0 < n }
+        requires room { self.old.len + (length name.now + 21 * n) * (length (T.numbers table.now) / n) ≤ length self.old.room.now }
+        ensures { Adds ((length name.now + 21 * n) * (length (T.numbers table.now) / n)) (lines name.now n (length (T.numbers table.now) / n) (T.numbers table.now)) self.old self.new }
+    {
+        for i in 0..table.len() / n {
+            self.put(name);
+            self.put_numbers(table, n * i, n * i + n);
+        }
+    }
+
+    fn put_refused(&mut self, number: u64)
+        requires { self.old.len + 29 ≤ length self.old.room.now }
+        ensures { Adds 29 (line refused_name (number ∷ [])) self.old self.new }
+    {
+        self.put(b"refused ");
+        self.put_ended(number, 0);
+    }
+
+    fn put_blob(&mut self, file: &[u8], c: BlobCounts)
+        requires start { self.old.len ≡ 0 }
+        requires fits { Listable file.now c (length self.old.room.now) }
+        ensures { Adds 524288 (listing c (tables_in c file.now)) self.old self.new }
+    {
+        let blob = Sections::of(file, c);
+        self.put_lines(b"blob ", 7, &WordTable(blob.counts));
+        self.put_lines(b"node ", 4, &WordTable(blob.nodes));
+        self.put_lines(b"const ", 1, &ConstantTable(blob.bases));
+        self.put_lines(b"ext ", 3, &ConstantTable(blob.exts));
+        self.put_lines(b"root ", 1, &WordTable(blob.roots));
+        self.put(b"end\n");
+    }
 }
 
 // The longest file that is listed.
@@ -178,11 +171,15 @@ pub fn list_stored(file: &[u8], out: &mut [u8]) -> usize
     requires { 524288 ≤ length out.old }
     ensures { Puts out.old 0 524288 (blob_list file.now) out.new result }
 {
+    let mut text = Text { room: out, len: 0 };
     if LONGEST_FILE < file.len() {
-        return put_refused(1, out);
+        text.put_refused(1);
+        return text.len;
     }
     if bad_framing(file) {
-        return put_refused(15, out);
+        text.put_refused(15);
+        return text.len;
     }
-    list_blob(file, counts_in(file), out)
+    text.put_blob(file, counts_in(file));
+    text.len
 }

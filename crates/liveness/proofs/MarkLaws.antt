@@ -1,15 +1,15 @@
 -- The liveness lists, node by node.
 -- Assumes nothing.
-use mathlib.Core.Bool.{Bool, true, false, cond, not, ◌&&◌, ◌||◌}
+use mathlib.Core.Bool.{Bool, true, false, cond, not, ◌||◌}
 use mathlib.Core.List.{List, [], ◌∷◌}
 use mathlib.Core.Path.{◌≡◌, refl, sym, ap, ◌∙◌}
 use Prim.Native.Nat.{ℕ, zero, suc, ◌+◌, ◌<◌, ◌≤◌}
 use native.Mathlib.Omega.{arith}
 use native.Mathlib.Numerals.{add-one}
-use lib.Dec.{eqb, ltb}
+use lib.Dec.{eqb}
 use lib.ListN.{length, get_or, set, length-set}
 use lib.Seq.{get_or-set_same, get_or-set_other}
-use borrow.Author.Tests.{eqb-true, eqb-false, eq-eqb, ne_eqb, lt-ltb, le-ltb}
+use borrow.Author.Tests.{eqb-true, eqb-false, eq-eqb, ne_eqb}
 use Rattle.laws.specs.Folds.{any_below}
 use Rattle.laws.proofs.Cases.{by_test}
 use Rattle.laws.proofs.Tests.{clash}
@@ -32,55 +32,11 @@ set_at l x v j h =
     (λ t. rw (t, eqb-true j x t) (get_or-set_same l x v 0 h))
     λ t. rw t (get_or-set_other l x j v 0 (eqb-false j x t))
 
-cond_or : (a b : Bool) (v w : ℕ) → cond a v (cond b v w) ≡ cond (b || (a || false)) v w
-cond_or true true v w = refl
-cond_or true false v w = refl
-cond_or false true v w = refl
-cond_or false false v w = refl
-
 eqb_swap : (a b : ℕ) → eqb a b ≡ eqb b a
 eqb_swap a b =
     by_test (eqb a b) (eqb a b ≡ eqb b a)
     (λ t. t ∙ sym (eq-eqb b a (sym (eqb-true a b t))))
     λ t. t ∙ sym (ne_eqb b a (λ e. eqb-false a b t (sym e)))
-
-cond_one : (b : Bool) (v w : ℕ) → cond b v w ≡ cond (b || false) v w
-cond_one true v w = refl
-cond_one false v w = refl
-
-module _ (i tag x y : ℕ) (used last : List ℕ) where
-  pub marked_none : tag < 6 → NodeMarked i tag x y used last used last
-  marked_none h =
-      record {
-        used_long = refl;
-        last_long = refl;
-        reads = λ j. rw (lt-ltb tag 6 h) refl;
-        lasts = λ j. rw (lt-ltb tag 6 h) refl;
-      }
-
-  module _ (same : length last ≡ length used) (first : x < length used) where
-    -- one operand
-    pub marked_one : {used' last' : List ℕ} → 6 ≤ tag → 9 ≤ tag → used' ≡ set used x 1 → last' ≡ set last x i → NodeMarked i tag x y used last used' last'
-    marked_one h k u l =
-        record {
-          used_long = rw u (length-set used x 1);
-          last_long = rw l (length-set last x i);
-          reads = λ j. rw (u, le-ltb tag 6 h, le-ltb tag 9 k) (set_at used x 1 j first ∙ cond_one (eqb j x) 1 (get_or used j 0));
-          lasts = λ j. rw (l, le-ltb tag 6 h, le-ltb tag 9 k) (set_at last x i j (omega arith) ∙ cond_one (eqb j x) i (get_or last j 0));
-        }
-
-    -- two operands
-    pub marked_two : {used₁ last₁ used' last' : List ℕ} → 6 ≤ tag → tag < 9 → y < length used → used₁ ≡ set used x 1 → last₁ ≡ set last x i → used' ≡ set used₁ y 1 → last' ≡ set last₁ y i
-        → NodeMarked i tag x y used last used' last'
-    marked_two h k second u l u' l' =
-        record {
-          used_long = rw (u', u) (length-set (set used x 1) y 1 ∙ length-set used x 1);
-          last_long = rw (l', l) (length-set (set last x i) y i ∙ length-set last x i);
-          reads = λ j. rw (u', u, le-ltb tag 6 h, lt-ltb tag 9 k)
-              (set_at (set used x 1) y 1 j (omega (arith, length-set used x 1)) ∙ ap (cond (eqb j y) 1) (set_at used x 1 j first) ∙ cond_or (eqb j y) (eqb j x) 1 (get_or used j 0));
-          lasts = λ j. rw (l', l, le-ltb tag 6 h, lt-ltb tag 9 k)
-              (set_at (set last x i) y i j (omega (arith, length-set last x i)) ∙ ap (cond (eqb j y) i) (set_at last x i j (omega arith)) ∙ cond_or (eqb j y) (eqb j x) i (get_or last j 0));
-        }
 
 -- one node more
 pub readers_more : (nodes : List ℕ) (i n : ℕ) {used last used' last' : List ℕ} → Readers nodes i n used last
@@ -120,29 +76,6 @@ rooted_more roots k n marks marks' h e m =
     marked false true e b = clash e refl
 
 -- ---- which nodes are emitted
-
-module _ (tag used root : ℕ) where
-  pub emits_root : (root ≡ 0 → ⊥) → emits_word tag used root ≡ true
-  emits_root n = rw (ne_eqb root 0 n) (both (not (eqb used 0)) (not (ltb tag 6 && not (eqb tag 2))))
-    where
-      both : (a b : Bool) → ((a || true) && (b || true)) ≡ true
-      both true true = refl
-      both true false = refl
-      both false true = refl
-      both false false = refl
-
-  pub emits_unused : root ≡ 0 → used ≡ 0 → emits_word tag used root ≡ false
-  emits_unused r u = rw (eq-eqb root 0 r, eq-eqb used 0 u) refl
-
-  pub emits_operation : root ≡ 0 → (used ≡ 0 → ⊥) → 6 ≤ tag → emits_word tag used root ≡ true
-  emits_operation r u h = rw (eq-eqb root 0 r, ne_eqb used 0 u, le-ltb tag 6 h) refl
-
-  pub emits_leaf : root ≡ 0 → (used ≡ 0 → ⊥) → tag < 6 → emits_word tag used root ≡ eqb tag 2
-  emits_leaf r u h = rw (eq-eqb root 0 r, ne_eqb used 0 u, lt-ltb tag 6 h) (twice (eqb tag 2))
-    where
-      twice : (b : Bool) → (not (not b) || false) ≡ b
-      twice true = refl
-      twice false = refl
 
 module _ (nodes root old : List ℕ) where
   pub emits_none : Emits 0 nodes root old old 0

@@ -4,7 +4,12 @@ use Rattle.std.specs.Prelude.{Bool, cond, not, ◌&&◌, ◌||◌, List, [], ◌
 use Rattle.laws.specs.Folds.{any_below}
 use Rattle.ir.specs.declared.program.Counts.{Counts}
 use Rattle.ir.specs.Words.{node_at, var, add, neg}
+use Rattle.liveness.specs.declared.liveness.Marks.{Marks}
 use Rattle.liveness.specs.Liveness.{has, operands, reads_of, is_root_of, last_by, Liveness, live}
+
+-- each list is still the one that was lent
+abbrev pub SameMarks : Marks → Marks → Type 0
+SameMarks m m' = (m.used.ghost_name ≡ m'.used.ghost_name) × (m.last_use.ghost_name ≡ m'.last_use.ghost_name) × (m.is_root.ghost_name ≡ m'.is_root.ghost_name)
 
 -- the first n words of a list are the map's
 abbrev pub Tab : List ℕ → ℕ → (ℕ → ℕ) → Type 0

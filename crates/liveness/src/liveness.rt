@@ -1,70 +1,81 @@
 // Which nodes are read, by whom last, and which are roots. Dead readers count.
 ghost use Rattle.std.specs.Prelude.{◌≡◌, ◌<◌, ◌≤◌, ◌*◌, length, set};
-ghost use Rattle.liveness.specs.LiveLists.{OperandsBelow, NodesBelow, NodeMarked, Readers, RootsBelow, Rooted, Emits, emits_word, bit, LiveOk, Alive};
+ghost use Rattle.liveness.specs.LiveLists.{SameMarks, OperandsBelow, NodesBelow, NodeMarked, Readers, RootsBelow, Rooted, Emits, emits_word, bit, LiveOk, Alive};
 
 use ir::node::{OP_ADD, OP_NEG, OP_VAR};
-use ir::program::Counts;
+use ir::program::ProgramRef;
 
-// Node i reads node j.
-fn note(i: u32, j: usize, used: &mut [u32], last_use: &mut [u32])
-    requires { (j < length used.old) × (j < length last_use.old) }
-    ensures { (used.new ≡ set used.old j 1) × (last_use.new ≡ set last_use.old j i) }
-{
-    used[j] = 1;
-    last_use[j] = i;
+// What the pass fills, a word a node: whether any node reads it, and at the end whether it is emitted; which node reads it
+// last; whether it is a root.
+#[derive(Drop)]
+pub struct Marks<'a> {
+    pub used: &'a mut [u32],
+    pub last_use: &'a mut [u32],
+    pub is_root: &'a mut [u32],
 }
 
-// Node i marks what it reads.
-fn mark_node(i: u32, tag: u32, x: u32, y: u32, used: &mut [u32], last_use: &mut [u32])
-    requires { OperandsBelow tag x y (length used.old) × (length last_use.old ≡ length used.old) }
-    ensures { NodeMarked i tag x y used.old last_use.old used.new last_use.new }
-{
-    if tag < OP_ADD {
-        return;
+impl Marks<'_> {
+    // Node i reads node j.
+    fn note(&mut self, i: u32, j: usize)
+        requires { (j < length self.old.used.now) × (j < length self.old.last_use.now) }
+        ensures noted { (self.new.used.now ≡ set self.old.used.now j 1) × (self.new.last_use.now ≡ set self.old.last_use.now j i) × (self.new.is_root.now ≡ self.old.is_root.now) }
+        ensures same_marks { SameMarks self.new self.old }
+    {
+        self.used[j] = 1;
+        self.last_use[j] = i;
     }
-    note(i, x as usize, used, last_use);
-    if tag < OP_NEG {
-        note(i, y as usize, used, last_use);
+
+    // Node i marks what it reads.
+    fn mark_node(&mut self, i: u32, tag: u32, x: u32, y: u32)
+        requires { OperandsBelow tag x y (length self.old.used.now) × (length self.old.last_use.now ≡ length self.old.used.now) }
+        ensures marked { NodeMarked i tag x y self.old.used.now self.old.last_use.now self.new.used.now self.new.last_use.now × (self.new.is_root.now ≡ self.old.is_root.now) }
+        ensures same_marks { SameMarks self.new self.old }
+    {
+        if tag < OP_ADD {
+            return;
+        }
+        self.note(i, x as usize);
+        if tag < OP_NEG {
+            self.note(i, y as usize);
+        }
     }
-}
 
-// Every node marks what it reads, dead or not; the last reader stays.
-fn mark_readers(n: usize, nodes: &[u32], used: &mut [u32], last_use: &mut [u32])
-    requires { NodesBelow nodes.now n × (n < 536870912) × Readers nodes.now 0 n used.old last_use.old }
-    ensures { Readers nodes.now n n used.new last_use.new }
-{
-    let mut i: usize = 0;
-    while i < n {
-        let at = 4 * i;
-        mark_node(
-            i as u32,
-            nodes[at],
-            nodes[at + 1],
-            nodes[at + 2],
-            used,
-            last_use,
-        );
-        i += 1;
+    // Every node marks what it reads, dead or not; the last reader stays. Lent words may be more than n nodes.
+    fn mark_readers(&mut self, n: usize, nodes: &[u32])
+        requires { NodesBelow nodes.now n × (n < 536870912) × Readers nodes.now 0 n self.old.used.now self.old.last_use.now }
+        ensures readers { Readers nodes.now n n self.new.used.now self.new.last_use.now × (self.new.is_root.now ≡ self.old.is_root.now) }
+        ensures same_marks { SameMarks self.new self.old }
+    {
+        for i in 0..n {
+            let at = 4 * i;
+            self.mark_node(i as u32, nodes[at], nodes[at + 1], nodes[at + 2]);
+        }
     }
-}
 
-// Node j is a root.
-fn pin(j: u32, is_root: &mut [u32])
-    requires { j < length is_root.old }
-    ensures { is_root.new ≡ set is_root.old j 1 }
-{
-    is_root[j as usize] = 1;
-}
+    // Roots are never given back. Lent roots may be more than count.
+    fn mark_roots(&mut self, n: usize, count: usize, roots: &[u32])
+        requires { RootsBelow roots.now count n × Rooted roots.now 0 n self.old.is_root.now }
+        ensures rooted { Rooted roots.now count n self.new.is_root.now × (self.new.used.now ≡ self.old.used.now) × (self.new.last_use.now ≡ self.old.last_use.now) }
+        ensures same_marks { SameMarks self.new self.old }
+    {
+        for &j in &roots[..count] {
+            self.is_root[j as usize] = 1;
+        }
+    }
 
-// Roots are never given back.
-fn mark_roots(n: usize, count: usize, roots: &[u32], is_root: &mut [u32])
-    requires { RootsBelow roots.now count n × Rooted roots.now 0 n is_root.old }
-    ensures { Rooted roots.now count n is_root.new }
-{
-    let mut r: usize = 0;
-    while r < count {
-        pin(roots[r], is_root);
-        r += 1;
+    // The words of use become words of emission; says how many nodes are emitted.
+    fn mark_emitted(&mut self, nodes: &[u32]) -> usize
+        requires { (4 * length self.old.used.now ≤ length nodes.now) × (length self.old.is_root.now ≡ length self.old.used.now) }
+        ensures emitted { Emits (length self.old.used.now) nodes.now self.old.is_root.now self.old.used.now self.new.used.now result × (self.new.last_use.now ≡ self.old.last_use.now) × (self.new.is_root.now ≡ self.old.is_root.now) }
+        ensures same_marks { SameMarks self.new self.old }
+    {
+        let mut count: usize = 0;
+        for i in 0..self.used.len() {
+            let emitted = emits(nodes[4 * i], self.used[i], self.is_root[i]);
+            self.used[i] = u32::from(emitted);
+            count += usize::from(emitted);
+        }
+        count
     }
 }
 
@@ -72,55 +83,18 @@ fn mark_roots(n: usize, count: usize, roots: &[u32], is_root: &mut [u32])
 fn emits(tag: u32, used: u32, root: u32) -> bool
     ensures { result ≡ emits_word tag used root }
 {
-    if root != 0 {
-        return true;
-    }
-    if used == 0 {
-        return false;
-    }
-    if OP_ADD <= tag {
-        return true;
-    }
-    tag == OP_VAR
-}
-
-// A truth as a word.
-fn word(b: bool) -> u32
-    ensures { result ≡ bit b }
-{
-    if b { 1 } else { 0 }
-}
-
-// The words of use become words of emission; says how many nodes are emitted.
-fn mark_emitted(nodes: &[u32], is_root: &[u32], used: &mut [u32]) -> usize
-    requires { (4 * length used.old ≤ length nodes.now) × (length is_root.now ≡ length used.old) }
-    ensures { Emits (length used.old) nodes.now is_root.now used.old used.new result }
-{
-    let mut count: usize = 0;
-    let mut i: usize = 0;
-    while i < used.len() {
-        let emitted = word(emits(nodes[4 * i], used[i], is_root[i]));
-        used[i] = emitted;
-        count += emitted as usize;
-        i += 1;
-    }
-    count
+    root != 0 || (used != 0 && (OP_ADD <= tag || tag == OP_VAR))
 }
 
 // The liveness pass over lists of 0: which nodes are emitted, who reads each last, which are roots. Says how many are
 // emitted.
-pub fn mark_live(
-    c: Counts,
-    nodes: &[u32],
-    roots: &[u32],
-    used: &mut [u32],
-    last_use: &mut [u32],
-    is_root: &mut [u32],
-) -> usize
-    requires { LiveOk c nodes.now roots.now used.old last_use.old is_root.old }
-    ensures { Alive c nodes.now roots.now used.new last_use.new is_root.new result }
+pub fn mark_live(p: &ProgramRef, marks: &mut Marks) -> usize
+    requires { LiveOk p.now.counts p.now.nodes.now p.now.roots.now marks.old.used.now marks.old.last_use.now marks.old.is_root.now }
+    ensures alive { Alive p.now.counts p.now.nodes.now p.now.roots.now marks.new.used.now marks.new.last_use.now marks.new.is_root.now result }
+    ensures same_marks { SameMarks marks.new marks.old }
 {
-    mark_readers(c.nodes, nodes, used, last_use);
-    mark_roots(c.nodes, c.roots, roots, is_root);
-    mark_emitted(nodes, is_root, used)
+    let c = p.counts;
+    marks.mark_readers(c.nodes, p.nodes);
+    marks.mark_roots(c.nodes, c.roots, p.roots);
+    marks.mark_emitted(p.nodes)
 }

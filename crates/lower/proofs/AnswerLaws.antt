@@ -1,8 +1,9 @@
 -- What `lower` answers, test by test.
 -- Assumes nothing.
+use Rattle.blob_rules.specs.declared.blob.BlobCounts.{BlobCounts}
 use mathlib.Core.Bool.{Bool, false, cond, ◌||◌}
 use mathlib.Core.List.{List, ◌++◌}
-use mathlib.Core.Option.{none}
+use Rattle.std.specs.Prelude.{None, Result, Err}
 use mathlib.Core.Path.{◌≡◌, refl, sym, ap, ◌∙◌}
 use Prim.Native.Nat.{ℕ, ◌*◌, ◌≤◌}
 use lib.Dec.{eqb, ltb}
@@ -18,17 +19,10 @@ use Rattle.ir.specs.Program.{Program, too_many_nodes, too_many_roots, short_tabl
 use Rattle.ir.proofs.ProgramLaws.{few, few_roots, long}
 use Rattle.ir.proofs.WellFormedLaws.{well_formed}
 use Rattle.blob_rules.specs.Check.{cleared}
-use Rattle.lower_parts.specs.declared.parts.Lowering.{Lowering}
-use Rattle.lower_parts.specs.declared.parts.Lowering.TheVariants.{Refused}
 use Rattle.lower_parts.specs.Lower.{blob_of}
 use Rattle.lower_parts.specs.Answer.{Lists, Output, lowering, short_lists, short_output, counts_of, lower_said, emptied, LowerAnswer}
-use Rattle.lower_parts.specs.Inner.{LowerOk, WordsAnswer}
+use Rattle.lower_parts.specs.Inner.{ListsLong, front, LowerOk, WordsAnswer}
 use Rattle.lower.proofs.EndLaws.{Exact, zeros}
-
--- the parts of the lists that n nodes need
-abbrev pub cut : ℕ → Lists → Lists
-cut n b =
-    record { used = take n b.used; last = take n b.last; root = take n b.root; slot = take n b.slot; free = take (2 * n) b.free }
 
 -- the parts put back
 abbrev pub joined : ℕ → Lists → Lists → Lists
@@ -56,21 +50,15 @@ module _ (q : Program) (b : Lists) (o : Output) where
   n = q.counts.nodes
 
   -- a refusal but 10
-  pub refused : (r : Refusal) → eqb (said_of r).number 0 ≡ false → eqb (said_of r).number 10 ≡ false → lower_said q b o ≡ said_of r → LowerAnswer q b o (Refused r) b o
+  pub refused : (r : Refusal) → eqb (said_of r).number 0 ≡ false → eqb (said_of r).number 10 ≡ false → lower_said q b o ≡ said_of r → LowerAnswer q b o (Err r) b o
   refused r z t e = record { said = sym e; wrote = rw (e, z) refl; lists = rw (e, z, t) refl }
 
-  pub record Long : Type 0 where
-    pub used_long : n ≤ length b.used
-    pub last_long : n ≤ length b.last
-    pub root_long : n ≤ length b.root
-    pub slot_long : n ≤ length b.slot
-    pub free_long : 2 * n ≤ length b.free
-
-  pub lists_are : short_lists n b ≡ false → Long
+  pub lists_are : n ≤ 536870911 → short_lists n b ≡ false → ListsLong n b
   unfolding short_lists
-  lists_are h =
+  lists_are few h =
       let z = five (ltb (length b.used) n) (ltb (length b.last) n) (ltb (length b.root) n) (ltb (length b.slot) n) (ltb (length b.free) (2 * n)) h in
       record {
+        few = few;
         used_long = ltb-false _ _ z.0;
         last_long = ltb-false _ _ z.1;
         root_long = ltb-false _ _ z.2;
@@ -78,8 +66,8 @@ module _ (q : Program) (b : Lists) (o : Output) where
         free_long = ltb-false _ _ z.4;
       }
 
-  module _ (l : Long) where
-    exact : Exact n (cut n b)
+  module _ (l : ListsLong n b) where
+    exact : Exact n (front n b)
     exact =
         record {
           used_long = length-take-le n b.used l.used_long;
@@ -89,7 +77,7 @@ module _ (q : Program) (b : Lists) (o : Output) where
           free_long = length-take-le (2 * n) b.free l.free_long;
         }
 
-    pub lower_ok : too_many_nodes c ≡ false → too_many_roots c ≡ false → short_tables c (length q.nodes) (length q.bases) (length q.exts) (length q.roots) ≡ false → ill_formed c q.nodes q.roots ≡ none → LowerOk q (cut n b)
+    pub lower_ok : too_many_nodes c ≡ false → too_many_roots c ≡ false → short_tables c (length q.nodes) (length q.bases) (length q.exts) (length q.roots) ≡ false → ill_formed c q.nodes q.roots ≡ None → LowerOk q (front n b)
     lower_ok h₈ h₉ h₁ h₇ =
         let f = few c h₈ in
         let r = few_roots c h₉ in
@@ -109,15 +97,17 @@ module _ (q : Program) (b : Lists) (o : Output) where
     back : (m : ℕ) (x : List ℕ) → m ≤ length x → cleared m (take m x) ++ drop m x ≡ cleared m x
     back m x h = ap (λ t. t ++ drop m x) (zeros m (take m x) (length-take-le m x h))
 
-    emptied_back : joined n (emptied n (cut n b)) b ≡ emptied n b
+    emptied_back : joined n (emptied n (front n b)) b ≡ emptied n b
     emptied_back =
         rw (back n b.used l.used_long, back n b.last l.last_long, back n b.root l.root_long, back n b.slot l.slot_long, back (2 * n) b.free l.free_long) refl
 
-    -- 10 or the blob
-    pub answered : {w : Lowering} (b₁ : Lists) {o' : Output} → lower_said q b o ≡ cond (short_output (lowering q) o) (refuses 10 0) (gives (counts_of (blob_of c (lowering q)).counts))
-        → WordsAnswer q (cut n b) o w b₁ o' → LowerAnswer q b o w (joined n b₁ b) o'
-    answered b₁ e a =
-        let lists = ap (λ x. joined n x b) a.lists ∙ emptied_back in
-        by_test (short_output (lowering q) o) (LowerAnswer q b o _ (joined n b₁ b) _)
-        (λ t. record { said = a.said ∙ sym e; wrote = rw (e, t) (rw t at a.wrote); lists = rw (e, t) lists })
-        λ t. record { said = a.said ∙ sym e; wrote = rw (e, t) (rw t at a.wrote); lists = rw (e, t) lists }
+    -- 10 or the blob, told of the whole lists
+    pub put_back : {w : Result BlobCounts Refusal} (b₁ : Lists) {o' : Output} → WordsAnswer q (front n b) o w b₁ o' → WordsAnswer q b o w (joined n b₁ b) o'
+    put_back b₁ a = record { said = a.said; wrote = a.wrote; lists = ap (λ x. joined n x b) a.lists ∙ emptied_back }
+
+  pub answered : {w : Result BlobCounts Refusal} (b' : Lists) {o' : Output} → lower_said q b o ≡ cond (short_output (lowering q) o) (refuses 10 0) (gives (counts_of (blob_of c (lowering q)).counts))
+      → WordsAnswer q b o w b' o' → LowerAnswer q b o w b' o'
+  answered b' e a =
+      by_test (short_output (lowering q) o) (LowerAnswer q b o _ b' _)
+      (λ t. record { said = a.said ∙ sym e; wrote = rw (e, t) (rw t at a.wrote); lists = rw (e, t) a.lists })
+      λ t. record { said = a.said ∙ sym e; wrote = rw (e, t) (rw t at a.wrote); lists = rw (e, t) a.lists }

@@ -1,5 +1,7 @@
 -- Lowering past its tests: the lists before and after, and whether the blob has room.
 -- Assumes nothing.
+use Rattle.std.specs.Prelude.{Result, Ok}
+use Rattle.ir.specs.declared.refusal.Refusal.{Refusal}
 use mathlib.Core.Bool.{Bool, true, false, ◌||◌}
 use mathlib.Core.List.{List, [], ◌∷◌, ◌++◌}
 use mathlib.Core.Path.{◌≡◌, refl, sym, ap, ◌∙◌}
@@ -15,8 +17,6 @@ use Rattle.ir.specs.Refusals.{refuses}
 use Rattle.ir.specs.Program.{Program}
 use Rattle.blob_rules.specs.declared.blob.BlobCounts.{BlobCounts}
 use Rattle.blob_rules.specs.Check.{cleared}
-use Rattle.lower_parts.specs.declared.parts.Lowering.{Lowering}
-use Rattle.lower_parts.specs.declared.parts.Lowering.TheVariants.{Lowered}
 use Rattle.liveness.specs.Liveness.{live}
 use Rattle.scan_parts.specs.Scan.{scan}
 use Rattle.lower_parts.specs.Answer.{Lists, Output, lowering, short_output, said_of_lowering, emptied}
@@ -62,19 +62,6 @@ emptied_exact : (n : ℕ) (b : Lists) → Exact n b → emptied n b ≡ zeroed n
 emptied_exact n b x =
     rw (zeros n b.used x.used_long, zeros n b.last x.last_long, zeros n b.root x.root_long, zeros n b.slot x.slot_long, zeros (2 * n) b.free x.free_long) refl
 
--- clearing keeps lengths
-pub emptied_keeps : (n : ℕ) (b b' : Lists) → b' ≡ emptied n b → Exact n b → Exact n b'
-emptied_keeps n b b' e x =
-    let z = e ∙ emptied_exact n b x in
-    let m = length-replicate {A = ℕ} n 0 in
-    record {
-      used_long = ap (λ y. length y.used) z ∙ m;
-      last_long = ap (λ y. length y.last) z ∙ m;
-      root_long = ap (λ y. length y.root) z ∙ m;
-      slot_long = ap (λ y. length y.slot) z ∙ m;
-      free_long = ap (λ y. length y.free) z ∙ length-replicate {A = ℕ} (2 * n) 0;
-    }
-
 pub lists_long : (n : ℕ) (b : Lists) → n ≤ 536870911 → Exact n b → ListsLong n b
 lists_long n b h x =
     record {
@@ -85,6 +72,11 @@ lists_long n b h x =
       slot_long = omega (arith, x.slot_long);
       free_long = omega (arith, x.free_long);
     }
+
+-- an answer, told of lists that are the same one by one
+pub told : {q : Program} {b : Lists} {o o' : Output} {w : Result BlobCounts Refusal} (b' : Lists) (used last root slot free : List ℕ) → used ≡ b'.used → last ≡ b'.last → root ≡ b'.root → slot ≡ b'.slot → free ≡ b'.free
+    → WordsAnswer q b o w b' o' → WordsAnswer q b o w (record { used = used; last = last; root = root; slot = slot; free = free }) o'
+told b' used last root slot free u l r s f a = rw (u, l, r, s, f) a
 
 -- ---- past the tests
 
@@ -173,14 +165,14 @@ module _ (q : Program) (b : Lists) (o : Output) (g : LowerOk q b) where
           }
 
       -- 10
-      pub refused : (b₂ b₃ : Lists) → short_output (lowering q) o ≡ true → b₃ ≡ emptied n b₂ → Exact n b₂ → (w : Lowering) → said_of_lowering w ≡ refuses 10 0 → WordsAnswer q b o w b₃ o
+      pub refused : (b₂ b₃ : Lists) → short_output (lowering q) o ≡ true → b₃ ≡ emptied n b₂ → Exact n b₂ → (w : Result BlobCounts Refusal) → said_of_lowering w ≡ refuses 10 0 → WordsAnswer q b o w b₃ o
       refused b₂ b₃ h e₃ x w s =
           record { said = rw h s; wrote = rw h refl; lists = e₃ ∙ emptied_exact n b₂ x ∙ sym (emptied_exact n b exact) }
 
       -- the blob
       pub done : (b₂ b₃ : Lists) (o' : Output) (count' : ℕ) (next : List ℕ) (k : BlobCounts) → short_output (lowering q) o ≡ false → BlobWritten c (lowering q) o o' count' next → b₃ ≡ emptied n b₂ → Exact n b₂
           → k ≡ record { nodes = count'; bases = c.bases; exts = c.exts; roots = c.roots; num_base = c.num_base; base_slots = get_or next 0 0; ext_slots = get_or next 1 0 }
-          → WordsAnswer q b o (Lowered k) b₃ o'
+          → WordsAnswer q b o (Ok k) b₃ o'
       done b₂ b₃ o' count' next k h w e₃ x r =
           record {
             said = rw (h, r, w.counted, w.slots.0, w.slots.1) refl;

@@ -1,5 +1,8 @@
 -- The promise of `lower` leaves one answer and one memory, and its rows stand in document 01's order.
 -- Assumes nothing.
+use Rattle.std.specs.Prelude.{Result, Ok, Err}
+use Rattle.ir.specs.declared.refusal.Refusal.{Refusal}
+use Rattle.blob_rules.specs.declared.blob.BlobCounts.{BlobCounts}
 use mathlib.Core.Bool.{true, cond}
 use mathlib.Core.Path.{◌≡◌, refl, sym, ap, ◌∙◌}
 use lib.Dec.{eqb}
@@ -7,15 +10,13 @@ use lib.ListN.{get_or}
 use Rattle.ir.specs.Program.{Program}
 use Rattle.ir.specs.Refusals.{Said, in_order, program_order}
 use Rattle.ir.proofs.Single.{refusal_of, known}
-use Rattle.lower_parts.specs.declared.parts.Lowering.{Lowering}
-use Rattle.lower_parts.specs.declared.parts.Lowering.TheVariants.{Lowered, Refused}
 use Rattle.lower_parts.specs.Answer.{Lists, Output, lower_rows, said_of_lowering, LowerAnswer}
 
-abbrev lowering_said : Said → Lowering
+abbrev lowering_said : Said → Result BlobCounts Refusal
 lowering_said s =
     let v = s.values in
     cond (eqb s.number 0)
-    (Lowered
+    (Ok
     (record {
       nodes = get_or v 0 0;
       bases = get_or v 1 0;
@@ -25,17 +26,17 @@ lowering_said s =
       base_slots = get_or v 5 0;
       ext_slots = get_or v 6 0;
     }))
-    (Refused (refusal_of s.number s.place))
+    (Err (refusal_of s.number s.place))
 
-lowering_back : (a : Lowering) → lowering_said (said_of_lowering a) ≡ a
-lowering_back (Lowered c) = refl
-lowering_back (Refused r) = rw ((known r).0, (known r).1)
+lowering_back : (a : Result BlobCounts Refusal) → lowering_said (said_of_lowering a) ≡ a
+lowering_back (Ok c) = refl
+lowering_back (Err r) = rw ((known r).0, (known r).1)
 
 -- an answer is known by what it says
-pub lowering_single : (a a' : Lowering) → said_of_lowering a ≡ said_of_lowering a' → a ≡ a'
+pub lowering_single : (a a' : Result BlobCounts Refusal) → said_of_lowering a ≡ said_of_lowering a' → a ≡ a'
 lowering_single a a' e = sym (lowering_back a) ∙ ap lowering_said e ∙ lowering_back a'
 
-pub lower_single : {p : Program} {b b' b'' : Lists} {o o' o'' : Output} {a a' : Lowering} → LowerAnswer p b o a b' o' → LowerAnswer p b o a' b'' o'' → (a ≡ a') × (b' ≡ b'') × (o' ≡ o'')
+pub lower_single : {p : Program} {b b' b'' : Lists} {o o' o'' : Output} {a a' : Result BlobCounts Refusal} → LowerAnswer p b o a b' o' → LowerAnswer p b o a' b'' o'' → (a ≡ a') × (b' ≡ b'') × (o' ≡ o'')
 lower_single {p} {b} {b'} {b''} {o} {o'} {o''} {a} {a'} f g =
     (lowering_single a a' (f.said ∙ sym g.said), f.lists ∙ sym g.lists, f.wrote ∙ sym g.wrote)
 

@@ -2,10 +2,9 @@
 -- Assumes nothing.
 use mathlib.Core.List.{List, [], ◌∷◌, ◌++◌}
 use mathlib.Core.Path.{◌≡◌, refl, sym, ap, ◌∙◌}
-use Prim.Native.Nat.{ℕ, zero, suc, ◌+◌, ◌<◌, ◌≤◌}
-use native.Mathlib.Omega.{arith}
+use Prim.Native.Nat.{ℕ, zero, suc, ◌+◌, ◌<◌}
 use native.Mathlib.Numerals.{add-one}
-use lib.ListN.{length, get_or, set, drop, length-append, length-drop}
+use lib.ListN.{length, get_or, set, drop}
 use lib.Seq.{drop-cons, set_at, append_snoc}
 use Rattle.laws.specs.Lists.{tabulate}
 use Rattle.laws.proofs.Tabulate.{length_tabulate}
@@ -19,16 +18,6 @@ abbrev pub laid : ℕ → (ℕ → ℕ) → List ℕ → List ℕ
 laid k f old = tabulate k f ++ drop k old
 
 module _ (f : ℕ → ℕ) (old : List ℕ) where
-  pub laid_none : old ≡ laid 0 f old
-  laid_none = go old
-    where
-      go : (l : List ℕ) → l ≡ drop 0 l
-      go [] = refl
-      go (x ∷ l) = refl
-
-  pub laid_long : (k : ℕ) → k ≤ length old → length (laid k f old) ≡ length old
-  laid_long k h = length-append (tabulate k f) (drop k old) ∙ omega (arith, length_tabulate k f, length-drop k old)
-
   pub laid_more : (k v : ℕ) → k < length old → v ≡ f k → set (laid k f old) k v ≡ laid (k + 1) f old
   laid_more k v h e =
       ap (λ (t : List ℕ). set (tabulate k f ++ t) k v) (drop-cons old k 0 h)

@@ -1,12 +1,13 @@
 -- What lowering says, what it writes and how it leaves the lists that it borrows.
 -- Assumes nothing.
-use Rattle.std.specs.Prelude.{Bool, cond, ◌||◌, List, [], ◌∷◌, ◌++◌, ◌≡◌, ℕ, ◌*◌, eqb, ltb, length, drop}
+use Rattle.ir.specs.declared.refusal.Refusal.{Refusal}
+use Rattle.std.specs.Prelude.{Bool, cond, ◌||◌, List, [], ◌∷◌, ◌++◌, ◌≡◌, ℕ, ◌*◌, eqb, ltb, length, drop, Result, Ok, Err}
 use Rattle.ir.specs.Program.{Program, too_many_nodes, too_many_roots, short_program, ill_formed}
 use Rattle.ir.specs.Refusals.{Said, Row, row, row_at, first, gives, said_of}
 use Rattle.blob_rules.specs.declared.blob.BlobCounts.{BlobCounts}
+use Rattle.blob_rules.specs.declared.blob.TableRooms.{TableRooms}
 use Rattle.blob_rules.specs.Check.{cleared}
-use Rattle.lower_parts.specs.declared.parts.Lowering.{Lowering}
-use Rattle.lower_parts.specs.declared.parts.Lowering.TheVariants.{Lowered, Refused}
+use Rattle.lower_parts.specs.declared.parts.Lists as Lent
 use Rattle.liveness.specs.Liveness.{live}
 use Rattle.lower_parts.specs.Lower as Lower
 
@@ -24,6 +25,15 @@ pub record Output : Type 0 where
   pub bases : List ℕ
   pub exts : List ℕ
   pub roots : List ℕ
+
+-- what is behind references to the lists
+abbrev pub lists_of : Lent.Lists → Lists
+lists_of b =
+    record { used = b.used.now; last = b.last_use.now; root = b.is_root.now; slot = b.slot_of.now; free = b.free.now }
+
+-- what is behind references to the rooms
+abbrev pub output_of : TableRooms → Output
+output_of r = record { nodes = r.nodes.now; bases = r.bases.now; exts = r.exts.now; roots = r.roots.now }
 
 -- what a program lowers to
 abbrev pub lowering : Program → Lower.Lowered
@@ -67,9 +77,9 @@ unfoldable pub lower_said : Program → Lists → Output → Said
 lower_said p b o = first (lower_rows p b o) (gives (counts_of (Lower.blob_of p.counts (lowering p)).counts))
 
 -- the same of an answer
-abbrev pub said_of_lowering : Lowering → Said
-said_of_lowering (Lowered c) = gives (counts_of c)
-said_of_lowering (Refused r) = said_of r
+abbrev pub said_of_lowering : Result BlobCounts Refusal → Said
+said_of_lowering (Ok c) = gives (counts_of c)
+said_of_lowering (Err r) = said_of r
 
 -- words over the first places of a list
 abbrev pub over : List ℕ → List ℕ → List ℕ
@@ -97,7 +107,7 @@ emptied n b =
     }
 
 -- the promise: what is said; a refusal writes nothing; the borrowed words are 0 after 0 and 10, else as they were
-pub record LowerAnswer (p : Program) (b : Lists) (o : Output) (answer : Lowering) (b' : Lists) (o' : Output) : Type 0 where
+pub record LowerAnswer (p : Program) (b : Lists) (o : Output) (answer : Result BlobCounts Refusal) (b' : Lists) (o' : Output) : Type 0 where
   pub said : said_of_lowering answer ≡ lower_said p b o
   pub wrote : o' ≡ cond (eqb (lower_said p b o).number 0) (written (lowering p) o) o
   pub lists : b' ≡ cond (eqb (lower_said p b o).number 0 || eqb (lower_said p b o).number 10) (emptied p.counts.nodes b) b

@@ -1,16 +1,23 @@
 -- What the inner functions of lowering ask and do: no public promise cites it.
 -- Assumes nothing.
-use Rattle.std.specs.Prelude.{cond, List, ◌≡◌, ℕ, ◌*◌, ◌<◌, ◌≤◌, length, get_or}
+use Rattle.std.specs.Prelude.{cond, List, ◌≡◌, ℕ, ◌*◌, ◌<◌, ◌≤◌, length, get_or, take, Result}
 use Rattle.ir.specs.declared.program.Counts.{Counts}
 use Rattle.ir.specs.Program.{Program, most, most32}
 use Rattle.ir.specs.Refusals.{gives, refuses}
+use Rattle.ir.specs.declared.refusal.Refusal.{Refusal}
+use Rattle.blob_rules.specs.declared.blob.BlobCounts.{BlobCounts}
 use Rattle.ir.specs.WellFormed.{WellFormed}
 use Rattle.scan_parts.specs.Pools.{ClassOk}
 use Rattle.liveness.specs.LiveLists.{busy, Alive}
-use Rattle.lower_parts.specs.declared.parts.Lowering.{Lowering}
+use Rattle.lower_parts.specs.declared.parts.Lists as Lent
 use Rattle.lower_parts.specs.Lower.{Lowered, blob_of}
 use Rattle.lower_parts.specs.Answer.{Lists, Output, lowering, short_output, counts_of, said_of_lowering, emptied}
 use Rattle.lower_parts.specs.Answer as Answer
+
+-- each list is still the one that was lent
+abbrev pub SameLists : Lent.Lists → Lent.Lists → Type 0
+SameLists b b' =
+    (b.used.ghost_name ≡ b'.used.ghost_name) × (b.last_use.ghost_name ≡ b'.last_use.ghost_name) × (b.is_root.ghost_name ≡ b'.is_root.ghost_name) × (b.slot_of.ghost_name ≡ b'.slot_of.ghost_name) × (b.free.ghost_name ≡ b'.free.ghost_name)
 
 -- ---- roots
 
@@ -52,6 +59,11 @@ pub record ListsLong (n : ℕ) (b : Lists) : Type 0 where
   pub slot_long : n ≤ length b.slot
   pub free_long : 2 * n ≤ length b.free
 
+-- the front of each list, as long as n nodes need
+abbrev pub front : ℕ → Lists → Lists
+front n b =
+    record { used = take n b.used; last = take n b.last; root = take n b.root; slot = take n b.slot; free = take (2 * n) b.free }
+
 -- a blob's counts fit 32 bits
 pub record CountsOk (c : Counts) (count : ℕ) (next : List ℕ) : Type 0 where
   pub few : count ≤ most
@@ -72,7 +84,7 @@ pub record LowerOk (q : Program) (b : Lists) : Type 0 where
   pub free_long : length b.free ≡ 2 * q.counts.nodes
 
 -- 10 or the blob; the lists are 0 in either case
-pub record WordsAnswer (q : Program) (b : Lists) (o : Output) (answer : Lowering) (b' : Lists) (o' : Output) : Type 0 where
+pub record WordsAnswer (q : Program) (b : Lists) (o : Output) (answer : Result BlobCounts Refusal) (b' : Lists) (o' : Output) : Type 0 where
   pub said : said_of_lowering answer ≡ cond (short_output (lowering q) o) (refuses 10 0) (gives (counts_of (blob_of q.counts (lowering q)).counts))
   pub wrote : o' ≡ cond (short_output (lowering q) o) o (Answer.written (lowering q) o)
   pub lists : b' ≡ emptied q.counts.nodes b

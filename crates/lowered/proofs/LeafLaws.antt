@@ -3,7 +3,7 @@
 -- Assumes nothing.
 use mathlib.Core.Bool.{true, false, cond}
 use mathlib.Core.List.{List}
-use mathlib.Core.Option.{none}
+use Rattle.std.specs.Prelude.{None}
 use mathlib.Core.Path.{◌≡◌, refl, sym, ap, ◌∙◌}
 use Prim.Native.Nat.{ℕ, ◌+◌, ◌*◌, ◌%◌, ◌<◌, ◌≤◌}
 use native.Mathlib.Nat.{zero-add, mod-eq_of_lt}
@@ -61,7 +61,7 @@ triple_low n l old k h =
     rw (same 0 (omega arith), same 1 (omega arith), same 2 (omega arith)) refl
 
 -- a leaf that is not outside a frame
-module _ (c : Counts) (nodes roots : List ℕ) (s : Shape) (f : WellFormed c nodes roots) (inside : lowest (node_outside (frame_limits s) nodes) c.nodes ≡ none) where
+module _ (c : Counts) (nodes roots : List ℕ) (s : Shape) (f : WellFormed c nodes roots) (inside : lowest (node_outside (frame_limits s) nodes) c.nodes ≡ None) where
   module _ (i : ℕ) (h : i < c.nodes) where
     abbrev w : Node
     w = node_at nodes i

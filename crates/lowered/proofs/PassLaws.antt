@@ -3,7 +3,7 @@
 use mathlib.Core.Bool.{false, ◌&&◌}
 use mathlib.Core.List.{List, []}
 use mathlib.Core.Logic.{by_cases}
-use mathlib.Core.Option.{Option, none, some}
+use Rattle.std.specs.Prelude.{Option, None, Some}
 use mathlib.Core.Path.{◌≡◌, refl, sym, ap, ◌∙◌}
 use Prim.Native.Nat.{ℕ, zero, suc, ◌-◌, ◌<◌, ◌≤◌}
 use native.Mathlib.Decide.{ℕ_discrete}
@@ -39,7 +39,7 @@ use Rattle.lowered.proofs.SimLaws.{Fits, walked, dim_low, slot_low}
 
 -- where the slots after n nodes are there, so are those after fewer
 module _ {B X : Type 0} (f : ℕ → Option (Slots B X)) (g : ℕ → Slots B X → Option (Slots B X)) (more : (i : ℕ) → f (suc i) ≡ after (f i) (g i)) where
-  earlier : (n i : ℕ) (m : Slots B X) → f n ≡ some m → i ≤ n → missing (f i) ≡ false
+  earlier : (n i : ℕ) (m : Slots B X) → f n ≡ Some m → i ≤ n → missing (f i) ≡ false
   earlier zero i m e h = let z : i ≡ 0 = omega arith in rw (z, e) refl
   earlier (suc n) i m e h =
       by_cases (ℕ_discrete i (suc n)) (λ q. rw (q, e) refl)
@@ -67,12 +67,12 @@ module _ {B X : Type 0} (K : Tower B X) (u : Contents B X) (c : Counts) (nodes r
     root_at r h = begin.root r h ∙ tabulate_at c.roots (λ k. root_word nodes (scan nodes v c.nodes).slot (get_or roots k 0)) r h
 
     -- the slots at the end, and what each root names there
-    pub end_slots : slots_after K tags kinds blob.counts s u blob.nodes blob.counts.nodes ≡ some final
+    pub end_slots : slots_after K tags kinds blob.counts s u blob.nodes blob.counts.nodes ≡ Some final
     end_slots =
         slots_same K tags kinds blob.counts s u table made.nodes blob.counts.nodes begin.node
         ∙ (walked K u c nodes roots s v blob.counts wf sound fits).1
 
-    pub end_root : (r : ℕ) → r < c.roots → root_held final (get_or blob.roots r 0) ≡ some (value_at K (leaves_of u) nodes (get_or roots r 0))
+    pub end_root : (r : ℕ) → r < c.roots → root_held final (get_or blob.roots r 0) ≡ Some (value_at K (leaves_of u) nodes (get_or roots r 0))
     end_root r h = ap (root_held final) (root_at r h) ∙ (walked K u c nodes roots s v blob.counts wf sound fits).2 r h
 
     -- a root below num_base is base
@@ -90,7 +90,7 @@ module _ {B X : Type 0} (K : Tower B X) (u : Contents B X) (c : Counts) (nodes r
         rw (t, root_at r h) w)
         λ t. rw t refl
 
-    pub gets_through : stops_at K tags kinds blob.counts s u (num_base_of c) blob.nodes blob.roots ≡ none
+    pub gets_through : stops_at K tags kinds blob.counts s u (num_base_of c) blob.nodes blob.roots ≡ None
     unfolding stops_at slots_after root_value
     gets_through =
         let through = slots_after K tags kinds blob.counts s u blob.nodes in

@@ -2,7 +2,7 @@
 -- Assumes nothing.
 use mathlib.Core.Bool.{false, not, ◌&&◌, ◌||◌}
 use mathlib.Core.List.{List, []}
-use mathlib.Core.Option.{none}
+use Rattle.std.specs.Prelude.{None, Ok}
 use mathlib.Core.Path.{◌≡◌, refl, sym, ap}
 use Prim.Native.Nat.{ℕ, ◌*◌, ◌<◌, ◌≤◌}
 use native.Mathlib.Omega.{arith}
@@ -15,7 +15,6 @@ use Rattle.laws.proofs.Tests.{clash, or_left, or_right}
 use Rattle.laws.proofs.Folds.{lowest_none}
 use Rattle.ir.specs.declared.program.Counts.{Counts}
 use Rattle.ir.specs.declared.frame.Shape.{Shape}
-use Rattle.ir.specs.declared.refusal.Outcome.TheVariants.{Done}
 use Rattle.ir.specs.Words.{node_at}
 use Rattle.ir.specs.Program.{num_base_of, too_many_nodes, too_many_roots, short_tables, ill_formed}
 use Rattle.ir.specs.Shape.{over_shape}
@@ -26,7 +25,7 @@ use Rattle.values.specs.Frame.{Lent, node_outside, frame_limits}
 use Rattle.evaluation.specs.Evaluation.{short_frame, short_memory, short_evals, ext_root, root_dim, prover_rows, lengths, ProverAnswer}
 
 -- where 12 is not given, a root below num_base is base
-pub leading_base : (c : Counts) (nodes roots : List ℕ) → ext_root c nodes roots ≡ none → (r : ℕ) → r < c.roots → r < num_base_of c → (node_at nodes (get_or roots r 0)).dim ≡ 0
+pub leading_base : (c : Counts) (nodes roots : List ℕ) → ext_root c nodes roots ≡ None → (r : ℕ) → r < c.roots → r < num_base_of c → (node_at nodes (get_or roots r 0)).dim ≡ 0
 unfolding ext_root
 leading_base c nodes roots e r h b =
     let z = lowest_none (λ k. ltb k (num_base_of c) && not (eqb (root_dim nodes roots k) 0)) c.roots e r h in
@@ -41,9 +40,9 @@ pub record Answered (c : Counts) (s : Shape) (l : Lengths) (base ext : ℕ) (nod
   pub shape : over_shape s ≡ false
   pub memory : short_memory c s 1 l ≡ false
   pub evals : short_evals c base ext ≡ false
-  pub formed : ill_formed c nodes roots ≡ none
-  pub inside : lowest (node_outside (frame_limits s) nodes) c.nodes ≡ none
-  pub leading : ext_root c nodes roots ≡ none
+  pub formed : ill_formed c nodes roots ≡ None
+  pub inside : lowest (node_outside (frame_limits s) nodes) c.nodes ≡ None
+  pub leading : ext_root c nodes roots ≡ None
 
 -- the rows one by one
 pub rows_quiet : (c : Counts) (s : Shape) (l : Lengths) (base ext : ℕ) (nodes roots : List ℕ) → any_holds (prover_rows c s l base ext (frame_limits s) nodes roots) ≡ false → Answered c s l base ext nodes roots
@@ -68,7 +67,7 @@ rows_quiet c s l base ext nodes roots h =
       leading = not_found (ext_root c nodes roots) (or_left (found (ext_root c nodes roots)) false h₁₂);
     }
 
-module _ (c : Counts) (s : Shape) (nodes roots : List ℕ) (l : Lent) {base base₁ ext ext₁ room room₁ : List ℕ} (a : ProverAnswer c s nodes roots l Done base base₁ ext ext₁ room room₁) where
+module _ (c : Counts) (s : Shape) (nodes roots : List ℕ) (l : Lent) {base base₁ ext ext₁ room room₁ : List ℕ} (a : ProverAnswer c s nodes roots l (Ok tt) base base₁ ext ext₁ room room₁) where
   pub quiet : any_holds (prover_rows c s (lengths nodes roots l room) (length base) (length ext) (frame_limits s) nodes roots) ≡ false
   quiet =
       done_quiet [] (prover_rows c s (lengths nodes roots l room) (length base) (length ext) (frame_limits s) nodes roots) refl (ap (λ (t : Said). t.number) (sym a.said))

@@ -2,7 +2,7 @@
 -- Assumes nothing.
 use mathlib.Core.Bool.{Bool, true, false, cond, not, ◌||◌}
 use mathlib.Core.List.{List, [], ◌∷◌}
-use mathlib.Core.Option.{Option, none, some}
+use Rattle.std.specs.Prelude.{Option, None, Some}
 use mathlib.Core.Path.{◌≡◌, refl, sym, ap, ◌∙◌}
 use Prim.Native.Nat.{ℕ, zero, suc, ◌+◌, ◌*◌, ◌-◌, ◌<◌, ◌≤◌}
 use native.Mathlib.Omega.{arith}
@@ -73,7 +73,7 @@ module _ {B X : Type 0} (K : Tower B X) (u : Contents B X) (c : Counts) (nodes r
 
   -- each node's slot holds its value
   abbrev pub Holds : Scan → Slots B X → Type 0
-  Holds sc m = (j t : ℕ) → j < c.nodes → sc.slot j ≡ suc t → slot_at m (dim j) t ≡ some (val j)
+  Holds sc m = (j t : ℕ) → j < c.nodes → sc.slot j ≡ suc t → slot_at m (dim j) t ≡ Some (val j)
 
   -- a slot's number is small
   pub slot_low : (i j t : ℕ) → i ≤ c.nodes → (scan nodes v i).slot j ≡ suc t → t < 536870911
@@ -95,16 +95,16 @@ module _ {B X : Type 0} (K : Tower B X) (u : Contents B X) (c : Counts) (nodes r
 
   module _ (i : ℕ) (h : i < c.nodes) (e : v.emitted i ≡ true) (m : Slots B X) (holds : Holds (scan nodes v i) m) where
     -- an operand as it is written comes to the operand's value
-    encoded : (j : ℕ) → j < i → has j (operands (node_at nodes i)) ≡ true → operand kinds b s u m (encode nodes v (scan nodes v i).slot j) ≡ some (val j)
+    encoded : (j : ℕ) → j < i → has j (operands (node_at nodes i)) ≡ true → operand kinds b s u m (encode nodes v (scan nodes v i).slot j) ≡ Some (val j)
     encoded j l o =
-        cond_case (λ x. operand kinds b s u m x ≡ some (val j)) (v.emitted j) (dim j * 536870912 + ((scan nodes v i).slot j - 1)) (uniform_kind (node_at nodes j).tag * 536870912 + (node_at nodes j).x)
+        cond_case (λ x. operand kinds b s u m x ≡ Some (val j)) (v.emitted j) (dim j * 536870912 + ((scan nodes v i).slot j - 1)) (uniform_kind (node_at nodes j).tag * 536870912 + (node_at nodes j).x)
         (λ q. let t = operand_held nodes v c roots sound i j h e l o q in
         ap (λ x. operand kinds b s u m (dim j * 536870912 + x)) (back t.1)
         ∙ by_slot K u b s m (dim j) t.0 (dim_low j (omega arith)) (omega (arith, slot_low i j t.0 (omega arith) t.1))
         ∙ holds j t.0 (omega arith) t.1)
         λ q. let z = uniform_leaf (node_at nodes j) (sound.operand_named i j h e o q) in
         by_name K u b s m (node_at nodes j).tag (node_at nodes j).x (node_at nodes j).y (fits.leaf j (omega arith) z.0) z.0 z.1
-        ∙ ap some (sym (leaf_val j z.0))
+        ∙ ap Some (sym (leaf_val j z.0))
       where
         back : {x t : ℕ} → x ≡ suc t → x - 1 ≡ t
         back g = omega arith
@@ -130,9 +130,9 @@ module _ {B X : Type 0} (K : Tower B X) (u : Contents B X) (c : Counts) (nodes r
     read_val : (j : ℕ) → j < i → values K (leaves_of u) nodes i j ≡ val j
     read_val j l = value_stays K (leaves_of u) nodes j i l
 
-    binary_case : (o : Binary) (k t : ℕ) → tag ≡ k → 6 ≤ k → k ≤ 8 → t < 2147483648 → at tags k ≡ some (binary o)
+    binary_case : (o : Binary) (k t : ℕ) → tag ≡ k → 6 ≤ k → k ≤ 8 → t < 2147483648 → at tags k ≡ Some (binary o)
         → ((env : ℕ → Value B X) → operation_value K env k x y ≡ binop K (op₀ K o) (op₁ K o) (env x) (env y))
-        → words k (operand_word x) (operand_word y) (slot_word (dim i) t) ≡ some (val i)
+        → words k (operand_word x) (operand_word y) (slot_word (dim i) t) ≡ Some (val i)
     binary_case o k t q l g z a f =
         let n = (wf.node i h).binary (omega arith) (omega arith) in
         let os : operands (node_at nodes i) ≡ x ∷ y ∷ [] = rw (le-ltb tag 6 (omega arith), lt-ltb tag 9 (omega arith)) refl in
@@ -142,13 +142,13 @@ module _ {B X : Type 0} (K : Tower B X) (u : Contents B X) (c : Counts) (nodes r
         binary_written K u b s m o k (operand_word x) (operand_word y) (slot_word (dim i) t) (val x) (val y) a
         (encoded x n.0 (rw os (has_first x (y ∷ [])))) (encoded y n.1 (rw os (has_second x y)))
         (word_class (dim i) t (dim_low i h) z ∙ rw (n.2, class_dim x (omega (arith, n.0)), class_dim y (omega (arith, n.1))) refl)
-        ∙ ap some (sym (computed ∙ f env ∙ by_values))
+        ∙ ap Some (sym (computed ∙ f env ∙ by_values))
 
     -- the one operand of a negation or an embedding
     one_operand : 9 ≤ tag → has x (operands (node_at nodes i)) ≡ true
     one_operand l = rw (le-ltb tag 6 (omega arith), le-ltb tag 9 l) (has_first x [])
 
-    negation_case : (t : ℕ) → tag ≡ 9 → t < 2147483648 → words 9 (operand_word x) 0 (slot_word (dim i) t) ≡ some (val i)
+    negation_case : (t : ℕ) → tag ≡ 9 → t < 2147483648 → words 9 (operand_word x) 0 (slot_word (dim i) t) ≡ Some (val i)
     unfolding operation_value
     negation_case t q z =
         let n = (wf.node i h).negation q in
@@ -157,9 +157,9 @@ module _ {B X : Type 0} (K : Tower B X) (u : Contents B X) (c : Counts) (nodes r
         let by_values : unop K K.neg₀ K.neg₁ (env x) ≡ unop K K.neg₀ K.neg₁ (val x) = rw (read_val x n.0) refl in
         negation_written K u b s m (operand_word x) (slot_word (dim i) t) (val x) (encoded x n.0 (one_operand (omega arith)))
         (word_class (dim i) t (dim_low i h) z ∙ rw (n.2, class_dim x (omega (arith, n.0))) refl)
-        ∙ ap some (sym (computed ∙ by_values))
+        ∙ ap Some (sym (computed ∙ by_values))
 
-    embedding_case : (t : ℕ) → tag ≡ 10 → words 10 (operand_word x) 0 (slot_word (dim i) t) ≡ some (val i)
+    embedding_case : (t : ℕ) → tag ≡ 10 → words 10 (operand_word x) 0 (slot_word (dim i) t) ≡ Some (val i)
     unfolding operation_value
     embedding_case t q =
         let n = (wf.node i h).embedding q in
@@ -167,16 +167,16 @@ module _ {B X : Type 0} (K : Tower B X) (u : Contents B X) (c : Counts) (nodes r
         let computed : val i ≡ ext (to_ext K (env x)) = operation_val i (omega arith) ∙ rw q refl in
         let by_values : val i ≡ ext (to_ext K (val x)) = computed ∙ ap (λ (w : Value B X). ext (to_ext K w)) (read_val x n.0) in
         embedding_written K u b s m (operand_word x) (slot_word (dim i) t) (val x) (encoded x n.0 (one_operand (omega arith)))
-        ∙ ap some (sym by_values)
+        ∙ ap Some (sym by_values)
 
     -- as it is written the node comes to the plain evaluator's value
-    node_written : (t : ℕ) → t < 2147483648 → value_of K tags kinds b s u m (written nodes v (scan nodes v i).slot i t) ≡ some (val i)
+    node_written : (t : ℕ) → t < 2147483648 → value_of K tags kinds b s u m (written nodes v (scan nodes v i).slot i t) ≡ Some (val i)
     unfolding operation_value
     node_written t z =
-        by_test (ltb tag 6) (value_of K tags kinds b s u m (written nodes v (scan nodes v i).slot i t) ≡ some (val i))
+        by_test (ltb tag 6) (value_of K tags kinds b s u m (written nodes v (scan nodes v i).slot i t) ≡ Some (val i))
         (λ a. let l = ltb-true tag 6 a in
-        rw a (leaf_written K u b s m tag x y (slot_word (dim i) t) (fits.leaf i h l) l ∙ ap some (sym (leaf_val i l))))
-        λ a. by_operation (λ k. tag ≡ k → value_of K tags kinds b s u m (written nodes v (scan nodes v i).slot i t) ≡ some (val i))
+        rw a (leaf_written K u b s m tag x y (slot_word (dim i) t) (fits.leaf i h l) l ∙ ap Some (sym (leaf_val i l))))
+        λ a. by_operation (λ k. tag ≡ k → value_of K tags kinds b s u m (written nodes v (scan nodes v i).slot i t) ≡ Some (val i))
         (λ q. rw q (binary_case plus 6 t q (omega arith) (omega arith) z refl (λ env. refl)))
         (λ q. rw q (binary_case minus 7 t q (omega arith) (omega arith) z refl (λ env. refl)))
         (λ q. rw q (binary_case times 8 t q (omega arith) (omega arith) z refl (λ env. refl)))
@@ -194,7 +194,7 @@ module _ {B X : Type 0} (K : Tower B X) (u : Contents B X) (c : Counts) (nodes r
         (record { op = tag; a = operand_word x; b = 0; res = slot_word (dim i) t }) (λ z. refl) λ z. refl
 
     -- the step of a written node puts its value into the slot that it takes
-    node_stepped : step K tags kinds b s u m (written nodes v (scan nodes v i).slot i (taken nodes v i)) ≡ some (put_at m (taken nodes v i) (val i))
+    node_stepped : step K tags kinds b s u m (written nodes v (scan nodes v i).slot i (taken nodes v i)) ≡ Some (put_at m (taken nodes v i) (val i))
     unfolding step
     node_stepped =
         let t = taken nodes v i in
@@ -213,7 +213,7 @@ module _ {B X : Type 0} (K : Tower B X) (u : Contents B X) (c : Counts) (nodes r
         let before : Holds sc m =
         give_all_lem nodes v (λ z. Holds z m) i (λ a t' z p q f w a' t'' l' y. w a' t'' l' (kept z.slot a a' t'' y)) (operands (node_at nodes i)) (scan nodes v i) holds
         in
-        upd_case (λ z. z ≡ suc t → slot_at (put_at m k (val i)) (dim j) t ≡ some (val j)) sc.slot i (suc k) j
+        upd_case (λ z. z ≡ suc t → slot_at (put_at m k (val i)) (dim j) t ≡ Some (val j)) sc.slot i (suc k) j
         (λ q y. rw (q, same y) (put_same m (dim i) k (val i) (class_dim i h)))
         λ n y. put_other m (dim j) k t (val i) (dim_low j l)
         (λ d z. pick_unheld dim sc.slot sc.free sc.next g (dim i) j (d ∙ class_dim i h) (y ∙ ap suc z))
@@ -225,11 +225,11 @@ module _ {B X : Type 0} (K : Tower B X) (u : Contents B X) (c : Counts) (nodes r
   -- ---- all nodes
 
   abbrev Reached : Scan → Type 0
-  Reached sc = (m : Slots B X) × (slots_after K tags kinds b s u (flat sc.out) (length sc.out) ≡ some m) × Holds sc m
+  Reached sc = (m : Slots B X) × (slots_after K tags kinds b s u (flat sc.out) (length sc.out) ≡ Some m) × Holds sc m
 
   pub reached : (i : ℕ) → i ≤ c.nodes → Reached (scan nodes v i)
   unfolding scan slots_after
-  reached zero h = (record { bases = λ k. none; exts = λ k. none }, refl, λ j t l x. absurd (omega arith))
+  reached zero h = (record { bases = λ k. None; exts = λ k. None }, refl, λ j t l x. absurd (omega arith))
   reached (suc i) h =
       let r = reached i (omega arith) in
       let sc = freed nodes v i in
@@ -244,8 +244,8 @@ module _ {B X : Type 0} (K : Tower B X) (u : Contents B X) (c : Counts) (nodes r
       λ q. r
 
   -- the walk of all that is written stops nowhere, and each root's slot holds its value
-  pub walked : (m : Slots B X) × (slots_after K tags kinds b s u (flat (scan nodes v c.nodes).out) (length (scan nodes v c.nodes).out) ≡ some m)
-      × ((r : ℕ) → r < c.roots → root_held m (root_word nodes (scan nodes v c.nodes).slot (get_or roots r 0)) ≡ some (val (get_or roots r 0)))
+  pub walked : (m : Slots B X) × (slots_after K tags kinds b s u (flat (scan nodes v c.nodes).out) (length (scan nodes v c.nodes).out) ≡ Some m)
+      × ((r : ℕ) → r < c.roots → root_held m (root_word nodes (scan nodes v c.nodes).slot (get_or roots r 0)) ≡ Some (val (get_or roots r 0)))
   walked =
       let z = reached c.nodes (omega arith) in (
         z.0,

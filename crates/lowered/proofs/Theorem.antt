@@ -1,9 +1,10 @@
 -- Demand 3, second half: what the plain evaluator answers lowers to a blob that passes the check, and whose walk leaves the same
 -- evals. The two statements are `LoweringIsFaithful` and `AnyLivenessIsFaithful` of specs/Faithful.antt.
 -- Assumes nothing.
+use Rattle.ir.specs.declared.refusal.Refusal.{Refusal}
 use mathlib.Core.Bool.{false}
 use mathlib.Core.List.{List, []}
-use mathlib.Core.Option.{none, some}
+use Rattle.std.specs.Prelude.{None, Some, Result, Ok}
 use mathlib.Core.Path.{◌≡◌, refl, sym, ap, ◌∙◌}
 use Prim.Native.Nat.{ℕ, zero, suc, ◌*◌, ◌<◌, ◌≤◌}
 use native.Mathlib.Omega.{arith}
@@ -14,8 +15,6 @@ use Rattle.laws.proofs.Tabulate.{length_tabulate}
 use Rattle.extension.specs.Tower.{goldilocks}
 use Rattle.ir.specs.declared.program.Counts.{Counts}
 use Rattle.ir.specs.declared.frame.Shape.{Shape}
-use Rattle.ir.specs.declared.refusal.Outcome.{Outcome}
-use Rattle.ir.specs.declared.refusal.Outcome.TheVariants.{Done}
 use Rattle.ir.specs.Program.{Program, num_base_of, too_many_nodes}
 use Rattle.ir.specs.Refusals.{Said, first, gives, any_holds}
 use Rattle.ir.specs.WellFormed.{WellFormed}
@@ -35,8 +34,6 @@ use Rattle.blob_rules.specs.Check.{short_check, legal_rows, slot_count, CheckAns
 use Rattle.slots.specs.Slots.{slot_words}
 use Rattle.slots.specs.Trace.{contents}
 use Rattle.walk.specs.Walk.{short_frame, short_walk, short_evals, frame_lengths, walk_rows, value_or, slots_or, root_values, WalkAnswer}
-use Rattle.lower_parts.specs.declared.parts.Lowering.{Lowering}
-use Rattle.lower_parts.specs.declared.parts.Lowering.TheVariants.{Lowered}
 use Rattle.liveness.specs.Liveness.{Liveness, live}
 use Rattle.scan_parts.specs.Scan.{scan}
 use Rattle.lower_parts.specs.Lower.{lowered, blob_of}
@@ -57,7 +54,7 @@ over_long : (ws old : List ℕ) (n : ℕ) → n ≤ length ws → n ≤ length (
 over_long ws old n h = omega (arith, length-append ws (drop (length ws) old))
 
 -- a frame that has what the leaves name has room for what any liveness makes of the program
-lowered_fits : (c : Counts) (nodes roots bases exts : List ℕ) (s : Shape) (v : Liveness) → too_many_nodes c ≡ false → WellFormed c nodes roots → lowest (node_outside (frame_limits s) nodes) c.nodes ≡ none
+lowered_fits : (c : Counts) (nodes roots bases exts : List ℕ) (s : Shape) (v : Liveness) → too_many_nodes c ≡ false → WellFormed c nodes roots → lowest (node_outside (frame_limits s) nodes) c.nodes ≡ None
     → Fits c nodes v (blob_of c (lowered c nodes roots bases exts v)).counts s
 lowered_fits c nodes roots bases exts s v h₈ formed inside =
     let f = few c h₈ in
@@ -73,7 +70,7 @@ lowered_fits c nodes roots bases exts s v h₈ formed inside =
     room_is (suc (suc d)) h = absurd (omega arith)
 
 module _ (q : Program) (s : Shape) (l : Lent) {base base₁ ext ext₁ room room₁ : List ℕ}
-    (prover : ProverAnswer q.counts s q.nodes q.roots (with_constants q.bases q.exts l) Done base base₁ ext ext₁ room room₁) where
+    (prover : ProverAnswer q.counts s q.nodes q.roots (with_constants q.bases q.exts l) (Ok tt) base base₁ ext ext₁ room room₁) where
   abbrev c : Counts
   c = q.counts
 
@@ -124,8 +121,8 @@ module _ (q : Program) (s : Shape) (l : Lent) {base base₁ ext ext₁ room room
     unfolding short_check
     long_check marks h = rw (le-ltb _ _ nodes_long, le-ltb _ _ roots_long, le-ltb _ _ h) refl
 
-    passed : (r : Outcome) (marks marks' : List ℕ) → slot_count counts ≤ length marks → CheckAnswer left s r marks marks' → r ≡ Done
-    passed r marks marks' h a = outcome_single r Done (a.said ∙ rw (known.shape, long_check (length marks) h) legal)
+    passed : (r : Result (Unit {0}) Refusal) (marks marks' : List ℕ) → slot_count counts ≤ length marks → CheckAnswer left s r marks marks' → r ≡ Ok tt
+    passed r marks marks' h a = outcome_single r (Ok tt) (a.said ∙ rw (known.shape, long_check (length marks) h) legal)
 
     -- ---- the walk
 
@@ -177,19 +174,19 @@ module _ (q : Program) (s : Shape) (l : Lent) {base base₁ ext ext₁ room room
         ∙ ap (λ f. f j) (values_same goldilocks (leaves_of read) (leaves (prover_strides s) (with_constants q.bases q.exts l)) q.nodes c.nodes
         (λ i b t. leaf_same c q.nodes q.roots s formed known.inside i b l q.bases q.exts o.bases o.exts t))
 
-    walked : (r : Outcome) (base₀ base₂ ext₀ ext₂ marks marks' slots slots' : List ℕ) → slot_count counts ≤ length marks → slot_words counts ≤ length slots
+    walked : (r : Result (Unit {0}) Refusal) (base₀ base₂ ext₀ ext₂ marks marks' slots slots' : List ℕ) → slot_count counts ≤ length marks → slot_words counts ≤ length slots
         → Evaluation.short_evals c (length base₀) (length ext₀) ≡ false
         → WalkAnswer left s frame r base₀ base₂ ext₀ ext₂ marks marks' slots slots'
-        → (r ≡ Done) × (base₂ ≡ base_evals_of (evaluated q s l) q.roots (num_base_of c) c.roots base₀) × (ext₂ ≡ ext_evals_of (evaluated q s l) q.roots (num_base_of c) c.roots ext₀)
+        → (r ≡ Ok tt) × (base₂ ≡ base_evals_of (evaluated q s l) q.roots (num_base_of c) c.roots base₀) × (ext₂ ≡ ext_evals_of (evaluated q s l) q.roots (num_base_of c) c.roots ext₀)
     walked r base₀ base₂ ext₀ ext₂ marks marks' slots slots' h k e a =
         let z = walk_quiet (length marks) (length slots) (length base₀) (length ext₀) h k e in (
-          outcome_single r Done (a.said ∙ first_none (walk_rows left s frame (length marks) (length slots) (length base₀) (length ext₀)) (gives []) z),
+          outcome_single r (Ok tt) (a.said ∙ first_none (walk_rows left s frame (length marks) (length slots) (length base₀) (length ext₀)) (gives []) z),
           (rw z at a.base_evals) ∙ base_evals_same (root_values left s frame) (evaluated q s l) left.roots q.roots (num_base_of c) c.roots base₀ same_values,
           (rw z at a.ext_evals) ∙ ext_evals_same (root_values left s frame) (evaluated q s l) left.roots q.roots (num_base_of c) c.roots ext₀ same_values,
         )
 
-    agreed : (r : Outcome) (base₂ ext₂ marks marks' slots slots' : List ℕ) → slot_count counts ≤ length marks → slot_words counts ≤ length slots
-        → WalkAnswer left s frame r base base₂ ext ext₂ marks marks' slots slots' → (r ≡ Done) × (base₂ ≡ base₁) × (ext₂ ≡ ext₁)
+    agreed : (r : Result (Unit {0}) Refusal) (base₂ ext₂ marks marks' slots slots' : List ℕ) → slot_count counts ≤ length marks → slot_words counts ≤ length slots
+        → WalkAnswer left s frame r base base₂ ext ext₂ marks marks' slots slots' → (r ≡ Ok tt) × (base₂ ≡ base₁) × (ext₂ ≡ ext₁)
     agreed r base₂ ext₂ marks marks' slots slots' h k a =
         let w = walked r base base₂ ext ext₂ marks marks' slots slots' h k known.evals a in
         let y = quiet c s q.nodes q.roots (with_constants q.bases q.exts l) prover in
@@ -222,18 +219,18 @@ module _ (q : Program) (s : Shape) (l : Lent) {base base₁ ext ext₁ room room
               ext_slots = get_or w 6 0;
             }
 
-    module _ {a : Lowering} {b' : Lists} {o' : Output} (answer : LowerAnswer q b o a b' o') where
-      made_counts : (k : BlobCounts) → a ≡ Lowered k → k ≡ counts
+    module _ {a : Result BlobCounts Refusal} {b' : Lists} {o' : Output} (answer : LowerAnswer q b o a b' o') where
+      made_counts : (k : BlobCounts) → a ≡ Ok k → k ≡ counts
       made_counts k e = done_counts k (ap said_of_lowering (sym e) ∙ answer.said)
 
-      made_words : (k : BlobCounts) → a ≡ Lowered k → o' ≡ written made o
+      made_words : (k : BlobCounts) → a ≡ Ok k → o' ≡ written made o
       made_words k e =
           let z : lower_said q b o ≡ gives (counts_of k) = sym answer.said ∙ ap said_of_lowering e in rw z at answer.wrote
 
       faithful : Faithful q s l base base₁ ext ext₁ b o a o'
       faithful =
           record {
-            lowers = λ h k. lowering_single a (Lowered counts) (answer.said ∙ lower_quiet h k);
+            lowers = λ h k. lowering_single a (Ok counts) (answer.said ∙ lower_quiet h k);
             passes = λ k e r marks marks'. rw (made_counts k e, made_words k e) (passed o r marks marks');
             walks = λ k e r base₀ base₂ ext₀ ext₂ marks marks' slots slots'. rw (made_counts k e, made_words k e) (walked o r base₀ base₂ ext₀ ext₂ marks marks' slots slots');
             agrees = λ k e r base₂ ext₂ marks marks' slots slots'. rw (made_counts k e, made_words k e) (agreed o r base₂ ext₂ marks marks' slots slots');
@@ -254,5 +251,5 @@ any_liveness_is_faithful B X K u c nodes roots bases exts s v h₈ h₇ h₁₃ 
       check_passes K u c nodes roots bases exts s v formed sound made.nodes made.roots begin fits base_roots,
       λ r h. rw (end_slots K u c nodes roots bases exts s v formed sound made.nodes made.roots begin fits base_roots)
           (end_root K u c nodes roots bases exts s v formed sound made.nodes made.roots begin fits base_roots r h
-          ∙ ap some (sym (value_stays K (leaves_of u) nodes (get_or roots r 0) c.nodes (formed.root r h)))),
+          ∙ ap Some (sym (value_stays K (leaves_of u) nodes (get_or roots r 0) c.nodes (formed.root r h)))),
     )

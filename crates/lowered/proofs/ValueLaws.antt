@@ -1,7 +1,7 @@
 -- One node: as it is written it comes to what the plain evaluator gives it, where its operands stand for theirs.
 -- Assumes nothing.
 use mathlib.Core.Bool.{Bool, true, false, cond, not}
-use mathlib.Core.Option.{Option, some}
+use Rattle.std.specs.Prelude.{Option, Some}
 use mathlib.Core.Path.{◌≡◌, refl}
 use Prim.Native.Nat.{ℕ, zero, suc, ◌+◌, ◌*◌, ◌%◌, ◌<◌}
 use native.Mathlib.Omega.{arith}
@@ -44,10 +44,10 @@ module _ {B X : Type 0} (K : Tower B X) (u : Contents B X) (c : BlobCounts) (s :
   by_slot (suc (suc d)) t h l = absurd (omega arith)
 
   -- and by its name
-  pub by_name : (tag x y : ℕ) → LeafFits c s tag x y → tag < 6 → (tag ≡ 2 → ⊥) → operand kinds c s u m (uniform_kind tag * 536870912 + x) ≡ some (leaf_value K (leaves_of u) tag x y)
+  pub by_name : (tag x y : ℕ) → LeafFits c s tag x y → tag < 6 → (tag ≡ 2 → ⊥) → operand kinds c s u m (uniform_kind tag * 536870912 + x) ≡ Some (leaf_value K (leaves_of u) tag x y)
   unfolding leaf_value
   by_name tag x y f h n =
-      by_leaf (λ k. LeafFits c s k x y → (k ≡ 2 → ⊥) → operand kinds c s u m (uniform_kind k * 536870912 + x) ≡ some (leaf_value K (leaves_of u) k x y))
+      by_leaf (λ k. LeafFits c s k x y → (k ≡ 2 → ⊥) → operand kinds c s u m (uniform_kind k * 536870912 + x) ≡ Some (leaf_value K (leaves_of u) k x y))
       (λ g z. rw (kind_of_lem 2 x g.low, payload_of_lem 2 x g.low, lt-ltb x c.bases (g.base_const refl).0) refl)
       (λ g z. rw (kind_of_lem 3 x g.low, payload_of_lem 3 x g.low, lt-ltb x c.exts (g.ext_const refl).0) refl)
       (λ g z. absurd (z refl))
@@ -57,10 +57,10 @@ module _ {B X : Type 0} (K : Tower B X) (u : Contents B X) (c : BlobCounts) (s :
       tag h f n
 
   -- a leaf that is written
-  pub leaf_written : (tag x y res : ℕ) → LeafFits c s tag x y → tag < 6 → value_of K tags kinds c s u m (record { op = tag; a = x; b = y; res = res }) ≡ some (leaf_value K (leaves_of u) tag x y)
+  pub leaf_written : (tag x y res : ℕ) → LeafFits c s tag x y → tag < 6 → value_of K tags kinds c s u m (record { op = tag; a = x; b = y; res = res }) ≡ Some (leaf_value K (leaves_of u) tag x y)
   unfolding leaf_value
   leaf_written tag x y res f h =
-      by_leaf (λ k. LeafFits c s k x y → value_of K tags kinds c s u m (record { op = k; a = x; b = y; res = res }) ≡ some (leaf_value K (leaves_of u) k x y))
+      by_leaf (λ k. LeafFits c s k x y → value_of K tags kinds c s u m (record { op = k; a = x; b = y; res = res }) ≡ Some (leaf_value K (leaves_of u) k x y))
       (λ g. rw ((g.base_const refl).1, lt-ltb x c.bases (g.base_const refl).0) refl)
       (λ g. rw ((g.ext_const refl).1, lt-ltb x c.exts (g.ext_const refl).0) refl)
       (λ g. let q = g.cell refl in
@@ -71,33 +71,33 @@ module _ {B X : Type 0} (K : Tower B X) (u : Contents B X) (c : BlobCounts) (s :
       tag h f
     where
       cell_written : (main_of y ≡ true → x < s.main) → (main_of y ≡ false → x < s.aux)
-          → cond (main_of y) (only_if (ltb x s.main) (some (base (u.main (offset_of y) x)))) (only_if (ltb x s.aux) (some (ext (u.aux (offset_of y) x))))
-          ≡ some (cond (main_of y) (base (u.main (offset_of y) x)) (ext (u.aux (offset_of y) x)))
+          → cond (main_of y) (only_if (ltb x s.main) (Some (base (u.main (offset_of y) x)))) (only_if (ltb x s.aux) (Some (ext (u.aux (offset_of y) x))))
+          ≡ Some (cond (main_of y) (base (u.main (offset_of y) x)) (ext (u.aux (offset_of y) x)))
       cell_written a b = go (main_of y) a b
         where
           go : (t : Bool) → (t ≡ true → x < s.main) → (t ≡ false → x < s.aux)
-              → cond t (only_if (ltb x s.main) (some (base (u.main (offset_of y) x)))) (only_if (ltb x s.aux) (some (ext (u.aux (offset_of y) x))))
-              ≡ some (cond t (base (u.main (offset_of y) x)) (ext (u.aux (offset_of y) x)))
+              → cond t (only_if (ltb x s.main) (Some (base (u.main (offset_of y) x)))) (only_if (ltb x s.aux) (Some (ext (u.aux (offset_of y) x))))
+              ≡ Some (cond t (base (u.main (offset_of y) x)) (ext (u.aux (offset_of y) x)))
           go true a b = rw (lt-ltb x s.main (a refl)) refl
           go false a b = rw (lt-ltb x s.aux (b refl)) refl
 
   -- operations that are written, where their operands stand for values
-  pub binary_written : (o : Binary) (tag a b res : ℕ) (v w : Value B X) → at tags tag ≡ some (binary o) → operand kinds c s u m a ≡ some v → operand kinds c s u m b ≡ some w
+  pub binary_written : (o : Binary) (tag a b res : ℕ) (v w : Value B X) → at tags tag ≡ Some (binary o) → operand kinds c s u m a ≡ Some v → operand kinds c s u m b ≡ Some w
       → is_ext res ≡ not (eqb (joined (class_of v) (class_of w)) 0)
-      → value_of K tags kinds c s u m (record { op = tag; a = a; b = b; res = res }) ≡ some (binop K (op₀ K o) (op₁ K o) v w)
+      → value_of K tags kinds c s u m (record { op = tag; a = a; b = b; res = res }) ≡ Some (binop K (op₀ K o) (op₁ K o) v w)
   unfolding base_operand ext_operand
   binary_written o tag a b res (base x) (base y) e f g h = rw (e, f, g, h) refl
   binary_written o tag a b res (base x) (ext y) e f g h = rw (e, f, g, h) refl
   binary_written o tag a b res (ext x) (base y) e f g h = rw (e, f, g, h) refl
   binary_written o tag a b res (ext x) (ext y) e f g h = rw (e, f, g, h) refl
 
-  pub negation_written : (a res : ℕ) (v : Value B X) → operand kinds c s u m a ≡ some v → is_ext res ≡ not (eqb (class_of v) 0)
-      → value_of K tags kinds c s u m (record { op = 9; a = a; b = 0; res = res }) ≡ some (unop K K.neg₀ K.neg₁ v)
+  pub negation_written : (a res : ℕ) (v : Value B X) → operand kinds c s u m a ≡ Some v → is_ext res ≡ not (eqb (class_of v) 0)
+      → value_of K tags kinds c s u m (record { op = 9; a = a; b = 0; res = res }) ≡ Some (unop K K.neg₀ K.neg₁ v)
   unfolding base_operand ext_operand
   negation_written a res (base x) f h = rw (f, h) refl
   negation_written a res (ext x) f h = rw (f, h) refl
 
-  pub embedding_written : (a res : ℕ) (v : Value B X) → operand kinds c s u m a ≡ some v
-      → value_of K tags kinds c s u m (record { op = 10; a = a; b = 0; res = res }) ≡ some (ext (to_ext K v))
+  pub embedding_written : (a res : ℕ) (v : Value B X) → operand kinds c s u m a ≡ Some v
+      → value_of K tags kinds c s u m (record { op = 10; a = a; b = 0; res = res }) ≡ Some (ext (to_ext K v))
   unfolding ext_operand
   embedding_written a res v f = rw f refl

@@ -1,15 +1,13 @@
 -- Demand 3, second half, as two statements. Their proofs are `lowering_is_faithful` and `any_liveness_is_faithful` of
 -- proofs/Theorem.antt.
 -- Assumes nothing.
-use Rattle.std.specs.Prelude.{false, List, [], ◌≡◌, ℕ, ◌<◌, ◌≤◌, length, get_or}
-use Rattle.std.proofs.Math.Option.{none, some}
+use Rattle.ir.specs.declared.refusal.Refusal.{Refusal}
+use Rattle.std.specs.Prelude.{false, List, [], ◌≡◌, ℕ, ◌<◌, ◌≤◌, length, get_or, None, Some, Result, Ok}
 use Rattle.laws.specs.Folds.{lowest}
 use Rattle.laws.specs.Options.{after}
 use Rattle.extension.specs.Tower.{Tower, goldilocks}
 use Rattle.ir.specs.declared.program.Counts.{Counts}
 use Rattle.ir.specs.declared.frame.Shape.{Shape}
-use Rattle.ir.specs.declared.refusal.Outcome.{Outcome}
-use Rattle.ir.specs.declared.refusal.Outcome.TheVariants.{Done}
 use Rattle.ir.specs.Program.{Program, num_base_of, too_many_nodes, ill_formed}
 use Rattle.ir.specs.Refusals.{first, gives}
 use Rattle.values.specs.Values.{Value, base, Leaves, values}
@@ -23,8 +21,6 @@ use Rattle.blob_rules.specs.Check.{slot_count, legal_rows, CheckAnswer}
 use Rattle.slots.specs.Slots.{slot_words}
 use Rattle.walk.specs.Walk.{WalkAnswer}
 use Rattle.liveness.specs.Liveness.{Liveness, Sound}
-use Rattle.lower_parts.specs.declared.parts.Lowering.{Lowering}
-use Rattle.lower_parts.specs.declared.parts.Lowering.TheVariants.{Lowered}
 use Rattle.lower_parts.specs.Lower.{lowered, blob_of}
 use Rattle.lower_parts.specs.Answer.{Lists, Output, lowering, short_lists, short_output, LowerAnswer}
 
@@ -44,31 +40,31 @@ evaluated q s l = values goldilocks (leaves (prover_strides s) (with_constants q
 
 -- what holds of what `lower` answered on a program q, where the lent words were b and o and became b' and o'; and of evals `base`
 -- and `ext` that `eval_program` turned into `base₁` and `ext₁`
-pub record Faithful (q : Program) (s : Shape) (l : Lent) (base base₁ ext ext₁ : List ℕ) (b : Lists) (o : Output) (a : Lowering) (o' : Output) : Type 0 where
+pub record Faithful (q : Program) (s : Shape) (l : Lent) (base base₁ ext ext₁ : List ℕ) (b : Lists) (o : Output) (a : Result BlobCounts Refusal) (o' : Output) : Type 0 where
   -- with room it is lowered, and the counts are those of the definition
-  pub lowers : short_lists q.counts.nodes b ≡ false → short_output (lowering q) o ≡ false → a ≡ Lowered (blob_of q.counts (lowering q)).counts
+  pub lowers : short_lists q.counts.nodes b ≡ false → short_output (lowering q) o ≡ false → a ≡ Ok (blob_of q.counts (lowering q)).counts
   -- the check passes it for that shape
-  pub passes : (k : BlobCounts) → a ≡ Lowered k → (r : Outcome) (marks marks' : List ℕ) → slot_count k ≤ length marks → CheckAnswer (blob_in k o') s r marks marks' → r ≡ Done
+  pub passes : (k : BlobCounts) → a ≡ Ok k → (r : Result (Unit {0}) Refusal) (marks marks' : List ℕ) → slot_count k ≤ length marks → CheckAnswer (blob_in k o') s r marks marks' → r ≡ Ok tt
   -- the walk, over any evals with room, gives each constraint the plain evaluator's value
   pub walks :
-      (k : BlobCounts) → a ≡ Lowered k → (r : Outcome) (base₀ base₂ ext₀ ext₂ marks marks' slots slots' : List ℕ) → slot_count k ≤ length marks → slot_words k ≤ length slots
+      (k : BlobCounts) → a ≡ Ok k → (r : Result (Unit {0}) Refusal) (base₀ base₂ ext₀ ext₂ marks marks' slots slots' : List ℕ) → slot_count k ≤ length marks → slot_words k ≤ length slots
       → short_evals q.counts (length base₀) (length ext₀) ≡ false
       → WalkAnswer (blob_in k o') s (with_constants o'.bases o'.exts l) r base₀ base₂ ext₀ ext₂ marks marks' slots slots'
-      → (r ≡ Done)
+      → (r ≡ Ok tt)
       × (base₂ ≡ base_evals_of (evaluated q s l) q.roots (num_base_of q.counts) q.counts.roots base₀)
       × (ext₂ ≡ ext_evals_of (evaluated q s l) q.roots (num_base_of q.counts) q.counts.roots ext₀)
   -- so over the evals that `eval_program` had it leaves what that left, word for word
   pub agrees :
-      (k : BlobCounts) → a ≡ Lowered k → (r : Outcome) (base₂ ext₂ marks marks' slots slots' : List ℕ) → slot_count k ≤ length marks → slot_words k ≤ length slots
+      (k : BlobCounts) → a ≡ Ok k → (r : Result (Unit {0}) Refusal) (base₂ ext₂ marks marks' slots slots' : List ℕ) → slot_count k ≤ length marks → slot_words k ≤ length slots
       → WalkAnswer (blob_in k o') s (with_constants o'.bases o'.exts l) r base base₂ ext ext₂ marks marks' slots slots'
-      → (r ≡ Done) × (base₂ ≡ base₁) × (ext₂ ≡ ext₁)
+      → (r ≡ Ok tt) × (base₂ ≡ base₁) × (ext₂ ≡ ext₁)
 
 -- where `eval_program` answers 0 on a program and a frame, and `lower` answers on that program, all of this holds
 abbrev pub LoweringIsFaithful : Type 0
 LoweringIsFaithful =
     (q : Program) (s : Shape) (l : Lent) (base base₁ ext ext₁ room room₁ : List ℕ)
-    → ProverAnswer q.counts s q.nodes q.roots (with_constants q.bases q.exts l) Done base base₁ ext ext₁ room room₁
-    → (b b' : Lists) (o o' : Output) (a : Lowering) → LowerAnswer q b o a b' o' → Faithful q s l base base₁ ext ext₁ b o a o'
+    → ProverAnswer q.counts s q.nodes q.roots (with_constants q.bases q.exts l) (Ok tt) base base₁ ext ext₁ room room₁
+    → (b b' : Lists) (o o' : Output) (a : Result BlobCounts Refusal) → LowerAnswer q b o a b' o' → Faithful q s l base base₁ ext ext₁ b o a o'
 
 -- ---- of any liveness and any tower
 
@@ -90,9 +86,9 @@ leaves_of u =
 abbrev pub AnyLivenessIsFaithful : Type 1
 AnyLivenessIsFaithful =
     (B X : Type 0) (K : Tower B X) (u : Contents B X) (c : Counts) (nodes roots bases exts : List ℕ) (s : Shape) (v : Liveness)
-    → too_many_nodes c ≡ false → ill_formed c nodes roots ≡ none → lowest (node_outside (frame_limits s) nodes) c.nodes ≡ none → ext_root c nodes roots ≡ none → Sound c nodes roots v
+    → too_many_nodes c ≡ false → ill_formed c nodes roots ≡ None → lowest (node_outside (frame_limits s) nodes) c.nodes ≡ None → ext_root c nodes roots ≡ None → Sound c nodes roots v
     → (first (legal_rows (blob_of c (lowered c nodes roots bases exts v)) s) (gives []) ≡ gives [])
     × ((r : ℕ) → r < c.roots
     → after (slots_after K tags kinds (blob_of c (lowered c nodes roots bases exts v)).counts s u (lowered c nodes roots bases exts v).nodes (lowered c nodes roots bases exts v).count)
     (λ m. root_held m (get_or (lowered c nodes roots bases exts v).roots r 0))
-    ≡ some (values K (leaves_of u) nodes c.nodes (get_or roots r 0)))
+    ≡ Some (values K (leaves_of u) nodes c.nodes (get_or roots r 0)))

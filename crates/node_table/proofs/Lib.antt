@@ -2,7 +2,6 @@
 pub mod Laws
 pub mod Places
 pub mod Pushes
-pub mod PutLaws
 pub mod Ring
 pub mod Seeks
 pub mod Single

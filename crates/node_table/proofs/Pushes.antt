@@ -2,7 +2,7 @@
 -- Assumes nothing.
 use Rattle.std.proofs.Common.{◌≡◌, ℕ, zero, suc, ◌+◌, ◌-◌, ◌*◌, ◌<◌, ◌≤◌, ◌≢◌, ◌⊎◌, List, [], ◌∷◌, ◌++◌, length, get_or, sym, refl, ap, ◌∙◌, inl, inr, ⊎_elim, arith, le-ltb, lt-ltb, eq-eqb, ne_eqb}
 use mathlib.Core.Logic.{by_cases}
-use mathlib.Core.Option.{none, some}
+use Rattle.std.specs.Prelude.{None, Some}
 use native.Mathlib.Decide.{ℕ_discrete, dec_lt}
 use Rattle.ir.specs.Words.{Node, node_at}
 use Rattle.node_table.specs.Words.{same, view, lookup}
@@ -25,35 +25,31 @@ is_there w l (suc n) =
 -- ---- the three answers
 
 module _ (t : Table) (w : Node) (at : ℕ) where
-  pub push_old : at < length t.places → (get_or t.places at 0 ≡ 0 → ⊥) → push_at t w at ≡ record { id = some (get_or t.places at 0 - 1); after = t }
+  pub push_old : at < length t.places → (get_or t.places at 0 ≡ 0 → ⊥) → push_at t w at ≡ record { id = Some (get_or t.places at 0 - 1); after = t }
   unfolding push_at
   push_old h n = rw (lt-ltb at (length t.places) h, ne_eqb (get_or t.places at 0) 0 n)
 
-  pub push_new : at < length t.places → get_or t.places at 0 ≡ 0 → t.count < room t → push_at t w at ≡ record { id = some t.count; after = appended t w at }
+  pub push_new : at < length t.places → get_or t.places at 0 ≡ 0 → t.count < room t → push_at t w at ≡ record { id = Some t.count; after = appended t w at }
   unfolding push_at
   push_new h e r = rw (lt-ltb at (length t.places) h, eq-eqb (get_or t.places at 0) 0 e, lt-ltb t.count (room t) r)
 
-  pub push_full : (at < length t.places → get_or t.places at 0 ≡ 0) → room t ≤ t.count → push_at t w at ≡ record { id = none; after = t }
+  pub push_full : (at < length t.places → get_or t.places at 0 ≡ 0) → room t ≤ t.count → push_at t w at ≡ record { id = None; after = t }
   unfolding push_at
   push_full e r =
       by_cases (dec_lt at (length t.places))
       (λ h. rw (lt-ltb at (length t.places) h, eq-eqb (get_or t.places at 0) 0 (e h), le-ltb t.count (room t) r))
       λ h. rw (le-ltb at (length t.places) (omega arith))
 
-  pub push_none : length t.places ≤ at → push_at t w at ≡ record { id = none; after = t }
-  unfolding push_at
-  push_none h = rw (le-ltb at (length t.places) h)
-
 module _ (room : ℕ) (xs : List Node) (w : Node) where
-  list_old : lookup w xs < length xs → push_list room xs w ≡ record { id = some (lookup w xs); list = xs }
+  list_old : lookup w xs < length xs → push_list room xs w ≡ record { id = Some (lookup w xs); list = xs }
   unfolding push_list
   list_old h = rw (lt-ltb (lookup w xs) (length xs) h)
 
-  list_new : length xs ≤ lookup w xs → length xs < room → push_list room xs w ≡ record { id = some (length xs); list = xs ++ (w ∷ []) }
+  list_new : length xs ≤ lookup w xs → length xs < room → push_list room xs w ≡ record { id = Some (length xs); list = xs ++ (w ∷ []) }
   unfolding push_list
   list_new h r = rw (le-ltb (lookup w xs) (length xs) h, lt-ltb (length xs) room r)
 
-  list_full : length xs ≤ lookup w xs → room ≤ length xs → push_list room xs w ≡ record { id = none; list = xs }
+  list_full : length xs ≤ lookup w xs → room ≤ length xs → push_list room xs w ≡ record { id = None; list = xs }
   unfolding push_list
   list_full h r = rw (le-ltb (lookup w xs) (length xs) h, le-ltb (length xs) room r)
 
@@ -73,7 +69,7 @@ module _ (start : Node → ℕ) (t : Table) (w : Node) (sound : Sound start t) w
       let o = push_old t w (find (start w) t w) p.0 (λ z. omega (arith, p.1)) in
       let m = list_old (room t) (view t.nodes t.count) w (omega arith) in
       let v : get_or t.places (find (start w) t w) 0 - 1 ≡ lookup w (view t.nodes t.count) = omega (arith, p.1) in
-      record { follows = rw (o, m) (record { ids = ap some v; lists = refl }); sound = rw o sound }
+      record { follows = rw (o, m) (record { ids = ap Some v; lists = refl }); sound = rw o sound }
 
   module _ (a : (j : ℕ) → j < t.count → node_at t.nodes j ≢ w) where
     kept_new : t.count < room t → Kept start t w
@@ -87,7 +83,7 @@ module _ (start : Node → ℕ) (t : Table) (w : Node) (sound : Sound start t) w
         let m = list_new (room t) (view t.nodes t.count) w (omega arith) (omega arith) in
         let fits : 4 * t.count + 4 ≤ length t.nodes = omega arith in
         record {
-          follows = rw (o, m) (record { ids = ap some (sym n); lists = append_view start t w sound a _ f fits });
+          follows = rw (o, m) (record { ids = ap Some (sym n); lists = append_view start t w sound a _ f fits });
           sound = rw o (append_sound start t w sound a _ f fits);
         }
 

@@ -1,6 +1,6 @@
 -- One turn of the lookup's loop.
 -- Assumes nothing.
-use Rattle.std.proofs.Common.{◌≡◌, ℕ, zero, suc, ◌-◌, ◌%◌, ◌<◌, Bool, true, false, List, length, get_or, sym, refl, ap, ◌∙◌, mod-lt, arith}
+use Rattle.std.proofs.Common.{◌≡◌, ℕ, zero, suc, ◌-◌, ◌%◌, ◌<◌, Bool, true, false, List, length, get_or, sym, refl, ◌∙◌, mod-lt, arith}
 use Rattle.ir.specs.Words.{Node}
 use Rattle.node_table.specs.Hashing.{hash_of, start_of}
 use Rattle.node_table.specs.Table.{next, seek, stops, find, table}
@@ -37,21 +37,19 @@ module _ (nodes : List ℕ) (n : ℕ) (places : List ℕ) (w : Node) where
   unfolding find
   no_places e = sym (seek_end (test nodes n places w) (length places) (length places) _ e)
 
-  pub seeking_start : (h u : ℕ) → (length places ≡ 0 → ⊥) → h ≡ hash_of w → u ≡ h → Seeking nodes n places w (u % length places) (length places)
+  pub seeking_start : (h : ℕ) → (length places ≡ 0 → ⊥) → h ≡ hash_of w → Seeking nodes n places w (h % length places) (length places)
   unfolding find
-  seeking_start h u k e q = rw (q, e) (record { low = mod-lt (hash_of w) (omega arith); on = refl })
+  seeking_start h k e = rw e (record { low = mod-lt (hash_of w) (omega arith); on = refl })
 
   module _ (at left : ℕ) (s : Seeking nodes n places w at left) where
-    pub seeking_more : (v a : ℕ) (b : Bool) → (left ≡ 0 → ⊥) → v ≡ get_or places at 0 → b ≡ stops nodes n w v → b ≡ false → a ≡ next (length places) at
+    pub seeking_more : (a : ℕ) (b : Bool) → (left ≡ 0 → ⊥) → b ≡ test nodes n places w at → b ≡ false → a ≡ next (length places) at
         → Seeking nodes n places w a (left - 1)
-    seeking_more v a b m e q f g =
-        let t : test nodes n places w at ≡ false = ap (stops nodes n w) (sym e) ∙ sym q ∙ f in
-        rw g (record { low = next_low (length places) at s.low; on = s.on ∙ seek_on (test nodes n places w) (length places) left at m t })
+    seeking_more a b m q f g =
+        rw g (record { low = next_low (length places) at s.low; on = s.on ∙ seek_on (test nodes n places w) (length places) left at m (sym q ∙ f) })
 
-    pub seeking_here : (v : ℕ) (b : Bool) → (left ≡ 0 → ⊥) → v ≡ get_or places at 0 → b ≡ stops nodes n w v → b ≡ true → at ≡ answer nodes n places w
-    seeking_here v b m e q f =
-        let t : test nodes n places w at ≡ true = ap (stops nodes n w) (sym e) ∙ sym q ∙ f in
-        sym (s.on ∙ seek_here (test nodes n places w) (length places) left at m t)
+    pub seeking_here : (b : Bool) → (left ≡ 0 → ⊥) → b ≡ test nodes n places w at → b ≡ true → at ≡ answer nodes n places w
+    seeking_here b m q f =
+        sym (s.on ∙ seek_here (test nodes n places w) (length places) left at m (sym q ∙ f))
 
     pub seeking_end : left ≡ 0 → length places ≡ answer nodes n places w
     seeking_end m = sym (s.on ∙ seek_end (test nodes n places w) (length places) left at m)

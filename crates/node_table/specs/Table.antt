@@ -1,8 +1,7 @@
 -- The hash places over lent words: 0 is free, i + 1 names node i. Open addressing, nothing is ever taken out. The probe is defined over
 -- any words, also words that no builder wrote.
 -- Assumes nothing.
-use Rattle.std.specs.Prelude.{◌≡◌, ℕ, zero, suc, ◌+◌, ◌-◌, ◌/◌, ◌<◌, ◌≤◌, min, Bool, cond, ◌&&◌, ◌||◌, ◌≢◌, List, [], ◌∷◌, length, ◌==◌, nat_le, nat_lt, slice_index, slice_index_or, slice_set}
-use Rattle.std.proofs.Math.Option.{Option, none, some}
+use Rattle.std.specs.Prelude.{◌≡◌, ℕ, zero, suc, ◌+◌, ◌-◌, ◌/◌, ◌<◌, ◌≤◌, min, Bool, cond, ◌&&◌, ◌||◌, ◌≢◌, List, [], ◌∷◌, length, ◌==◌, nat_le, nat_lt, slice_index, slice_index_or, slice_set, Option, None, Some}
 use Rattle.ir.specs.Words.{Node, node_at}
 use Rattle.node_table.specs.Words.{put, same}
 
@@ -56,9 +55,9 @@ unfoldable pub push_at : Table → Node → ℕ → Pushed
 push_at t w at =
     cond (nat_lt at (length t.places))
     (cond (slice_index t.places at == 0)
-    (cond (nat_lt t.count (room t)) (record { id = some t.count; after = appended t w at }) (record { id = none; after = t }))
-    (record { id = some (slice_index t.places at - 1); after = t }))
-    (record { id = none; after = t })
+    (cond (nat_lt t.count (room t)) (record { id = Some t.count; after = appended t w at }) (record { id = None; after = t }))
+    (record { id = Some (slice_index t.places at - 1); after = t }))
+    (record { id = None; after = t })
 
 -- a push: the lookup, then what it found
 unfoldable pub push : ℕ → Table → Node → Pushed

@@ -2,8 +2,6 @@
 ghost use Rattle.std.specs.Prelude.{◌≡◌, ◌*◌, ◌≤◌, length};
 ghost use Rattle.node_table.specs.Tests.{no_node, past_index};
 
-use super::table::wide;
-
 // The highest column, challenge or alpha index.
 const MOST_INDEX: usize = 65535;
 
@@ -12,11 +10,8 @@ pub fn is_no_node(nodes: &[u32], n: usize, id: u32, dim: u32) -> bool
     requires { 4 * n ≤ length nodes.now }
     ensures { result ≡ no_node nodes.now n id dim }
 {
-    let i = wide(id);
-    if n <= i {
-        return true;
-    }
-    nodes[4 * i + 3] != dim
+    let i = id as usize;
+    n <= i || nodes[4 * i + 3] != dim
 }
 
 pub fn past_index(index: usize) -> bool

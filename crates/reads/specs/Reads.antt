@@ -1,11 +1,10 @@
 -- The trace columns that a program reads at a later row, as `next_row_trace_reads` lists them.
 -- Assumes nothing.
-use Rattle.std.specs.Prelude.{Bool, cond, ◌&&◌, ◌||◌, List, [], ◌∷◌, ◌≡◌, ℕ, ◌+◌, eqb, leb, ltb, length}
+use Rattle.ir.specs.declared.refusal.Refusal.{Refusal}
+use Rattle.std.specs.Prelude.{Bool, cond, ◌&&◌, ◌||◌, List, [], ◌∷◌, ◌≡◌, ℕ, ◌+◌, eqb, leb, ltb, length, Result, Ok, Err}
 use Rattle.std.proofs.lemmas.List.Edits.{sets}
 use Rattle.laws.specs.Folds.{any_below, all_below}
 use Rattle.ir.specs.declared.node.Var.{Var}
-use Rattle.reads.specs.declared.reads.Columns.{Columns}
-use Rattle.reads.specs.declared.reads.Columns.TheVariants.{Listed, Refused}
 use Rattle.ir.specs.Program.{Program, too_many_nodes, too_many_roots, short_program, ill_formed}
 use Rattle.ir.specs.Refusals.{Said, Row, row, row_at, first, gives, said_of, on_done}
 use Rattle.ir.specs.Words.{Node, node_at, var, unpacked}
@@ -44,9 +43,9 @@ columns_of p width = columns_read p.nodes p.counts.nodes width
 -- ---- the answer
 
 -- on 0 the number of columns
-abbrev pub said_of_columns : Columns → Said
-said_of_columns (Listed count) = gives (count ∷ [])
-said_of_columns (Refused r) = said_of r
+abbrev pub said_of_columns : Result ℕ Refusal → Said
+said_of_columns (Ok count) = gives (count ∷ [])
+said_of_columns (Err r) = said_of r
 
 -- the order of refusals, where `room` words are lent for the columns
 abbrev pub reads_rows : Program → ℕ → ℕ → List Row
@@ -64,6 +63,6 @@ unfoldable pub reads_said : Program → ℕ → ℕ → Said
 reads_said p width room = first (reads_rows p width room) (gives (length (columns_of p width) ∷ []))
 
 -- the promise: what is said, and the room at exit, where at entry it held the words `old`
-pub record ReadsAnswer (p : Program) (width : ℕ) (old new : List ℕ) (answer : Columns) : Type 0 where
+pub record ReadsAnswer (p : Program) (width : ℕ) (old new : List ℕ) (answer : Result ℕ Refusal) : Type 0 where
   pub said : said_of_columns answer ≡ reads_said p width (length old)
   pub written : new ≡ on_done (reads_said p width (length old)) (sets old 0 (columns_of p width)) old

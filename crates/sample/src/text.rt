@@ -1,73 +1,21 @@
 // The numbers of a text: decimal, each followed by one space or by the end of its line.
 
-// What reading has come to: how many numbers were stored, the value of the digits since the last of them, and whether
-// all was as it should be.
-#[derive(Clone, Copy)]
-pub struct Reading {
-    pub count: usize,
-    pub value: u64,
-    pub good: bool,
-}
-
-fn spoilt(r: Reading) -> Reading {
-    Reading {
-        count: r.count,
-        value: 0,
-        good: false,
+// Stores the numbers at the start of a room; none where the text has something else, or more than there is room for.
+pub fn read_numbers<'a>(text: &[u8], room: &'a mut [u64]) -> Option<&'a [u64]> {
+    let mut count = 0usize;
+    let mut value = 0u64;
+    for byte in text {
+        match *byte {
+            b' ' | b'\n' => {
+                *room.get_mut(count)? = value;
+                count += 1;
+                value = 0;
+            }
+            b'0'..=b'9' => {
+                value = value.checked_mul(10)?.checked_add(u64::from(*byte - b'0'))?;
+            }
+            _ => return None,
+        }
     }
-}
-
-fn with_digit(r: Reading, digit: u64) -> Reading {
-    let value = r.value;
-    if (u64::MAX - digit) / 10 < value {
-        return spoilt(r);
-    }
-    Reading {
-        count: r.count,
-        value: 10 * value + digit,
-        good: r.good,
-    }
-}
-
-fn stored(r: Reading, numbers: &mut [u64]) -> Reading {
-    let count = r.count;
-    if numbers.len() <= count {
-        return spoilt(r);
-    }
-    numbers[count] = r.value;
-    Reading {
-        count: count + 1,
-        value: 0,
-        good: r.good,
-    }
-}
-
-fn with_byte(r: Reading, byte: u8, numbers: &mut [u64]) -> Reading {
-    if byte == b' ' {
-        return stored(r, &mut numbers[..]);
-    }
-    if byte == b'\n' {
-        return stored(r, &mut numbers[..]);
-    }
-    if byte < b'0' {
-        return spoilt(r);
-    }
-    if b'9' < byte {
-        return spoilt(r);
-    }
-    with_digit(r, (byte - b'0') as u64)
-}
-
-pub fn read_numbers(text: &[u8], numbers: &mut [u64]) -> Reading {
-    let mut r = Reading {
-        count: 0,
-        value: 0,
-        good: true,
-    };
-    let mut i: usize = 0;
-    while i < text.len() {
-        r = with_byte(r, text[i], &mut numbers[..]);
-        i += 1;
-    }
-    r
+    room.get(..count)
 }

@@ -84,9 +84,6 @@ module _ (nodes : List ℕ) (v : Liveness) (i : ℕ) where
   pub freed_out : (freed nodes v i).out ≡ (scan nodes v i).out
   freed_out = (given_keeps nodes v i (operands (node_at nodes i)) (scan nodes v i)).0
 
-  pub freed_next : (freed nodes v i).next ≡ (scan nodes v i).next
-  freed_next = (given_keeps nodes v i (operands (node_at nodes i)) (scan nodes v i)).1
-
   pub one_more : v.emitted i ≡ true → length (scan nodes v (suc i)).out ≡ suc (length (scan nodes v i).out)
   one_more e =
       rw (scan_writes e, freed_out)

@@ -1,11 +1,10 @@
 -- What the operands of a node give back, over the lists.
 -- Assumes nothing.
-use Rattle.scan_parts.proofs.SpellLaws.{w, operands_none, operands_two, operands_one}
+use Rattle.scan_parts.proofs.SpellLaws.{w, operands_two, operands_one}
 use mathlib.Core.List.{List}
-use mathlib.Core.Path.{◌≡◌, refl, sym, ap, ◌∙◌}
+use mathlib.Core.Path.{sym, ap, ◌∙◌}
 use Prim.Native.Nat.{ℕ, ◌*◌, ◌<◌, ◌≤◌}
 use native.Mathlib.Omega.{arith}
-use lib.ListN.{length}
 use Rattle.scan_parts.specs.Scan.{give}
 use Rattle.scan_parts.specs.Pools.{GiveOk, Gives}
 use Rattle.scan.specs.Arrays.{Released}
@@ -25,10 +24,6 @@ module _ (i : ℕ) (nodes last pinned slot free tops next : List ℕ) where
         pairs = (v.long.2, g.pairs.1);
         few = omega (arith, v.few, v.long.0, g.few);
       }
-
-  pub released_none : (w nodes i).tag < 6 → length tops ≡ 2 → Released i nodes last pinned slot free tops next slot free tops
-  released_none h e =
-      record { long = (refl, refl, e); few = refl; follows = λ emitted s v. rw (operands_none nodes i h) v }
 
   module _ (h : 6 ≤ (w nodes i).tag) (slot₁ free₁ tops₁ : List ℕ) (g : Gives i (w nodes i).x nodes last pinned slot free tops next slot₁ free₁ tops₁) where
     pub released_one : 9 ≤ (w nodes i).tag → Released i nodes last pinned slot free tops next slot₁ free₁ tops₁

@@ -1,6 +1,6 @@
 -- The lists of the scan: free slots as stacks, and how many there are.
 -- Assumes nothing.
-use mathlib.Core.Bool.{Bool, true, false, not, ◌&&◌}
+use mathlib.Core.Bool.{Bool, true, not, ◌&&◌}
 use mathlib.Core.List.{List, [], ◌∷◌}
 use mathlib.Core.Path.{◌≡◌, refl, sym, ap, ◌∙◌}
 use Prim.Native.Nat.{ℕ, zero, suc, ◌+◌, ◌-◌, ◌*◌, ◌<◌, ◌≤◌}
@@ -114,15 +114,6 @@ tops_le tops (suc (suc c)) h = absurd (omega arith)
 
 -- ---- giving a slot back
 
-last_false : (a b : Bool) → (a && b && false) ≡ false
-last_false true true = refl
-last_false true false = refl
-last_false false b = refl
-
-mid_false : (a c : Bool) → (a && false && c) ≡ false
-mid_false true c = refl
-mid_false false c = refl
-
 module _ (i j : ℕ) (nodes last pinned slot free tops next : List ℕ) (g : GiveOk j nodes last pinned slot free tops next) where
   abbrev class : ℕ
   class = (node_at nodes j).dim
@@ -130,29 +121,12 @@ module _ (i j : ℕ) (nodes last pinned slot free tops next : List ℕ) (g : Giv
   abbrev test : ℕ → Bool
   test held = not (not (eqb (get_or pinned j 0) 0)) && eqb (get_or last j 0) i && not (eqb held 0)
 
-  pub no_slot : get_or slot j 0 ≡ 0 → test (get_or slot j 0) ≡ false
-  no_slot e = rw e (last_false (not (not (eqb (get_or pinned j 0) 0))) (eqb (get_or last j 0) i))
-
-  pub a_root : (get_or pinned j 0 ≡ 0 → ⊥) → test (get_or slot j 0) ≡ false
-  a_root n = rw (ne_eqb (get_or pinned j 0) 0 n) refl
-
-  pub read_later : (get_or last j 0 ≡ i → ⊥) → test (get_or slot j 0) ≡ false
-  read_later n = rw (ne_eqb (get_or last j 0) i n) (mid_false (not (not (eqb (get_or pinned j 0) 0))) (not (eqb (get_or slot j 0) 0)))
-
   pub gone : (get_or slot j 0 ≡ 0 → ⊥) → get_or pinned j 0 ≡ 0 → get_or last j 0 ≡ i → test (get_or slot j 0) ≡ true
   gone n p l = rw (ne_eqb (get_or slot j 0) 0 n, eq-eqb (get_or pinned j 0) 0 p, eq-eqb (get_or last j 0) i l) refl
 
   -- where a slot is given back, its class has room
   pub top_room : (get_or slot j 0 ≡ 0 → ⊥) → 2 * get_or tops class 0 + class < length free
   top_room n = omega (arith, g.few, g.free_long, g.class.dim, tops_le tops class g.class.dim, busy_clear slot j n)
-
-  pub gives_none : test (get_or slot j 0) ≡ false → Gives i j nodes last pinned slot free tops next slot free tops
-  gives_none e =
-      record {
-        long = (refl, refl, g.pairs.0);
-        few = refl;
-        follows = λ emitted s v. let q : s.slot j ≡ get_or slot j 0 = sym (v.slots j g.place) in rw (q, e) v;
-      }
 
   pub gives_one : (get_or slot j 0 ≡ 0 → ⊥) → test (get_or slot j 0) ≡ true
       → Gives i j nodes last pinned slot free tops next (set slot j 0) (set free (2 * get_or tops class 0 + class) (get_or slot j 0 - 1)) (set tops class (get_or tops class 0 + 1))

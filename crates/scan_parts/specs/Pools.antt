@@ -5,6 +5,11 @@ use Rattle.ir.specs.Words.{node_at}
 use Rattle.liveness.specs.Liveness.{has, operands}
 use Rattle.scan_parts.specs.Scan.{Scan, pick, left, more, slot_word, written, give}
 use Rattle.liveness.specs.LiveLists.{Tab, busy, listed}
+use Rattle.scan_parts.specs.declared.pools as declared
+
+-- each list of the scan is still the one that was lent
+abbrev pub SameScan : declared.Scan.Scan → declared.Scan.Scan → Type 0
+SameScan s s' = (s.slot_of.ghost_name ≡ s'.slot_of.ghost_name) × (s.free.ghost_name ≡ s'.free.ghost_name) × (s.out.ghost_name ≡ s'.out.ghost_name)
 
 -- the free slots of class c, of which there are k: each at every other place from c on, the last freed first
 unfoldable pub stack : List ℕ → ℕ → ℕ → List ℕ

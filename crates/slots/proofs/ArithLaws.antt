@@ -2,7 +2,7 @@
 -- Assumes nothing.
 use mathlib.Core.Bool.{cond}
 use mathlib.Core.List.{List, [], ◌∷◌}
-use mathlib.Core.Option.{Option, none, some, some-injective}
+use Rattle.std.specs.Prelude.{Option, None, Some}
 use mathlib.Core.Path.{◌≡◌, refl, ap}
 use Prim.Native.Nat.{ℕ, ◌+◌, ◌*◌, ◌<◌, ◌≤◌}
 use native.Mathlib.Omega.{arith}
@@ -20,23 +20,25 @@ use Rattle.field.proofs.Laws.{◌then◌, reduced, add≈, mul≈, minus≈, sta
 use Rattle.extension.proofs.ExtLaws.{near_trans, limbs_stand, least_limbs, sums_near, minuses_near, product_near, remainders_near}
 use Rattle.ir.specs.declared.frame.Shape.{Shape}
 use Rattle.values.specs.Values.{base, ext}
+use Rattle.values.specs.Frame.{Lent}
 use Rattle.values.specs.Room.{ValueIs}
 use Rattle.values.proofs.ValueLaws.{base_is, ext_is}
 use Rattle.blob_rules.specs.declared.blob.BlobCounts.{BlobCounts}
-use Rattle.blob_rules.specs.Blob.{Binary, plus, minus, times, binary, tags, kinds}
+use Rattle.blob_rules.specs.Blob.{Instr, Binary, plus, minus, times, binary, tags, kinds}
 use Rattle.device.specs.StepRule.{base_operand, ext_operand, op₀, op₁}
 use Rattle.slots.specs.Steps.{ReadsBase, ReadsExt, BaseGives, ExtGives}
+use Rattle.std.proofs.lemmas.Option.{same_Some}
 
 -- ---- answers that are there
 
-two : {A C : Type 0} (f : A → A → C) (o r : Option A) {v : C} → on2 f o r ≡ some v → (x : A) × (y : A) × (o ≡ some x) × (r ≡ some y) × (f x y ≡ v)
-two f none r h = none_some refl h
-two f (some x) none h = none_some refl h
-two f (some x) (some y) {v} h = (x, y, refl, refl, some-injective (f x y) v h)
+two : {A C : Type 0} (f : A → A → C) (o r : Option A) {v : C} → on2 f o r ≡ Some v → (x : A) × (y : A) × (o ≡ Some x) × (r ≡ Some y) × (f x y ≡ v)
+two f None r h = none_some refl h
+two f (Some x) None h = none_some refl h
+two f (Some x) (Some y) {v} h = (x, y, refl, refl, same_Some (f x y) v h)
 
-one : {A C : Type 0} (f : A → C) (o : Option A) {v : C} → on1 f o ≡ some v → (x : A) × (o ≡ some x) × (f x ≡ v)
-one f none h = none_some refl h
-one f (some x) {v} h = (x, refl, some-injective (f x) v h)
+one : {A C : Type 0} (f : A → C) (o : Option A) {v : C} → on1 f o ≡ Some v → (x : A) × (o ≡ Some x) × (f x ≡ v)
+one f None h = none_some refl h
+one f (Some x) {v} h = (x, refl, same_Some (f x) v h)
 
 -- ---- the field's promises, by operation
 
@@ -67,71 +69,71 @@ ext_result times e f h = ext_is (limbs_stand h (near_trans (product_near e f) (r
 is_add : {k : ℕ} → 6 ≤ k → k < 9 → (k ≡ 8 → ⊥) → (k ≡ 7 → ⊥) → k ≡ 6
 is_add l h a b = omega arith
 
-module _ (c : BlobCounts) (consts room : List ℕ) (op a b : ℕ) {x r : ℕ} where
-  pub base_binary_gives : (o : Binary) {y : ℕ} → at tags op ≡ some (binary o) → ReadsBase c consts room a x → ReadsBase c consts room b y → Is₀ o x y r → BaseGives c consts room op a b r
+module _ (c : BlobCounts) (consts room : List ℕ) (w : Instr) {x r : ℕ} where
+  pub base_binary_gives : (o : Binary) {y : ℕ} → at tags w.op ≡ Some (binary o) → ReadsBase c consts room w.a x → ReadsBase c consts room w.b y → Is₀ o x y r → BaseGives c consts room w r
   base_binary_gives o e f g h =
       record {
         follows = λ s u t m v res held wide z.
-            let q = two (λ i j. base (op₀ goldilocks o i j)) (base_operand kinds c s u m a) (base_operand kinds c s u m b) (rw (e, wide) at z) in
+            let q = two (λ i j. base (op₀ goldilocks o i j)) (base_operand kinds c s u m w.a) (base_operand kinds c s u m w.b) (rw (e, wide) at z) in
             rw (← q.4) (base_result o (f.follows s u t m q.0 held q.2) (g.follows s u t m q.1 held q.3) h);
       }
 
   -- the result that is chosen out of all three
-  pub base_chosen_gives : {y sum difference made : ℕ} → 6 ≤ op → op < 9 → ReadsBase c consts room a x → ReadsBase c consts room b y
-      → Is₀ plus x y sum → Is₀ minus x y difference → Is₀ times x y made → r ≡ cond (eqb op 8) made (cond (eqb op 7) difference sum) → BaseGives c consts room op a b r
+  pub base_chosen_gives : {y sum difference made : ℕ} → 6 ≤ w.op → w.op < 9 → ReadsBase c consts room w.a x → ReadsBase c consts room w.b y
+      → Is₀ plus x y sum → Is₀ minus x y difference → Is₀ times x y made → r ≡ cond (eqb w.op 8) made (cond (eqb w.op 7) difference sum) → BaseGives c consts room w r
   base_chosen_gives l h f g s d m e =
-      by_test (eqb op 8) _ (λ t. base_binary_gives times (ap (at tags) (eqb-true op 8 t)) f g (rw (rw t at e) m))
-      λ t. by_test (eqb op 7) _ (λ z. base_binary_gives minus (ap (at tags) (eqb-true op 7 z)) f g (rw (rw (t, z) at e) d))
-      λ z. base_binary_gives plus (ap (at tags) (is_add l h (eqb-false op 8 t) (eqb-false op 7 z))) f g (rw (rw (t, z) at e) s)
+      by_test (eqb w.op 8) _ (λ t. base_binary_gives times (ap (at tags) (eqb-true w.op 8 t)) f g (rw (rw t at e) m))
+      λ t. by_test (eqb w.op 7) _ (λ z. base_binary_gives minus (ap (at tags) (eqb-true w.op 7 z)) f g (rw (rw (t, z) at e) d))
+      λ z. base_binary_gives plus (ap (at tags) (is_add l h (eqb-false w.op 8 t) (eqb-false w.op 7 z))) f g (rw (rw (t, z) at e) s)
 
-  pub base_negation_gives : op ≡ 9 → ReadsBase c consts room a x → Is (Field.minus x) r → BaseGives c consts room op a b r
+  pub base_negation_gives : w.op ≡ 9 → ReadsBase c consts room w.a x → Is (Field.minus x) r → BaseGives c consts room w r
   base_negation_gives e f h =
       record {
         follows = λ s u t m v res held wide z.
-            let w = only_some (eqb b 0) (on1 (λ i. base (goldilocks.neg₀ i)) (base_operand kinds c s u m a)) (rw (e, wide) at z) in
-            let q = one (λ i. base (goldilocks.neg₀ i)) (base_operand kinds c s u m a) w.1 in
+            let k = only_some (eqb w.b 0) (on1 (λ i. base (goldilocks.neg₀ i)) (base_operand kinds c s u m w.a)) (rw (e, wide) at z) in
+            let q = one (λ i. base (goldilocks.neg₀ i)) (base_operand kinds c s u m w.a) k.1 in
             rw (← q.2) (base_is (stands h (minus≈ (f.follows s u t m q.0 held q.1) then reduced)));
       }
 
 -- ---- extension results
 
-module _ (c : BlobCounts) (s : Shape) (bases exts challenges alphas offset room : List ℕ) (op a b : ℕ) where
+module _ (c : BlobCounts) (s : Shape) (l : Lent) (room : List ℕ) (w : Instr) where
   abbrev Reads : ℕ → List ℕ → Type 0
-  Reads = ReadsExt c s bases exts challenges alphas offset room
+  Reads = ReadsExt c s l room
 
   abbrev Gives : List ℕ → Type 0
-  Gives = ExtGives c s bases exts challenges alphas offset room op a b
+  Gives = ExtGives c s l room w
 
-  pub ext_binary_gives : (o : Binary) {x y r : List ℕ} → at tags op ≡ some (binary o) → Reads a x → Reads b y → Is₁ o x y r → Gives r
+  pub ext_binary_gives : (o : Binary) {x y r : List ℕ} → at tags w.op ≡ Some (binary o) → Reads w.a x → Reads w.b y → Is₁ o x y r → Gives r
   ext_binary_gives o e f g h =
       record {
         follows = λ u t m v res held wide z.
-            let q = two (λ i j. ext (op₁ goldilocks o i j)) (ext_operand kinds c s u goldilocks m a) (ext_operand kinds c s u goldilocks m b) (rw (e, wide) at z) in
+            let q = two (λ i j. ext (op₁ goldilocks o i j)) (ext_operand kinds c s u goldilocks m w.a) (ext_operand kinds c s u goldilocks m w.b) (rw (e, wide) at z) in
             rw (← q.4) (ext_result o (f.follows u t m q.0 held q.2) (g.follows u t m q.1 held q.3) h);
       }
 
   -- the sum or the difference, whichever is chosen
-  pub ext_either_gives : {x y sum difference r : List ℕ} → 6 ≤ op → op < 9 → (op ≡ 8 → ⊥) → Reads a x → Reads b y → Is₁ plus x y sum → Is₁ minus x y difference
-      → r ≡ cond (eqb op 7) difference sum → Gives r
+  pub ext_either_gives : {x y sum difference r : List ℕ} → 6 ≤ w.op → w.op < 9 → (w.op ≡ 8 → ⊥) → Reads w.a x → Reads w.b y → Is₁ plus x y sum → Is₁ minus x y difference
+      → r ≡ cond (eqb w.op 7) difference sum → Gives r
   ext_either_gives l h n f g s d e =
-      by_test (eqb op 7) _ (λ z. ext_binary_gives minus (ap (at tags) (eqb-true op 7 z)) f g (rw (rw z at e) d))
-      λ z. ext_binary_gives plus (ap (at tags) (is_add l h n (eqb-false op 7 z))) f g (rw (rw z at e) s)
+      by_test (eqb w.op 7) _ (λ z. ext_binary_gives minus (ap (at tags) (eqb-true w.op 7 z)) f g (rw (rw z at e) d))
+      λ z. ext_binary_gives plus (ap (at tags) (is_add l h n (eqb-false w.op 7 z))) f g (rw (rw z at e) s)
 
-  pub ext_negation_gives : {x r : List ℕ} → op ≡ 9 → Reads a x → Limbs 3 (minuses 3 x) r → Gives r
+  pub ext_negation_gives : {x r : List ℕ} → w.op ≡ 9 → Reads w.a x → Limbs 3 (minuses 3 x) r → Gives r
   ext_negation_gives e f h =
       record {
         follows = λ u t m v res held wide z.
-            let w = only_some (eqb b 0) (on1 (λ i. ext (goldilocks.neg₁ i)) (ext_operand kinds c s u goldilocks m a)) (rw (e, wide) at z) in
-            let q = one (λ i. ext (goldilocks.neg₁ i)) (ext_operand kinds c s u goldilocks m a) w.1 in
+            let k = only_some (eqb w.b 0) (on1 (λ i. ext (goldilocks.neg₁ i)) (ext_operand kinds c s u goldilocks m w.a)) (rw (e, wide) at z) in
+            let q = one (λ i. ext (goldilocks.neg₁ i)) (ext_operand kinds c s u goldilocks m w.a) k.1 in
             rw (← q.2) (ext_is (limbs_stand h (near_trans (minuses_near 3 (f.follows u t m q.0 held q.1)) (remainders_near 3 _))));
       }
 
-  pub ext_embedding_gives : {x r : List ℕ} → op ≡ 10 → Reads a x → LeastLimbs 3 x r → Gives r
+  pub ext_embedding_gives : {x r : List ℕ} → w.op ≡ 10 → Reads w.a x → LeastLimbs 3 x r → Gives r
   ext_embedding_gives e f h =
       record {
         follows = λ u t m v res held wide z.
-            let w = only_some (eqb b 0) (on1 ext (ext_operand kinds c s u goldilocks m a)) (rw e at z) in
-            let q = one ext (ext_operand kinds c s u goldilocks m a) w.1 in
+            let k = only_some (eqb w.b 0) (on1 ext (ext_operand kinds c s u goldilocks m w.a)) (rw e at z) in
+            let q = one ext (ext_operand kinds c s u goldilocks m w.a) k.1 in
             rw (← q.2) (ext_is (limbs_stand (least_limbs h) (f.follows u t m q.0 held q.1)));
       }
 

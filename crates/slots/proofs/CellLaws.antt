@@ -2,11 +2,9 @@
 -- Assumes nothing.
 use mathlib.Core.Bool.{Bool, true, false, cond, ◌&&◌}
 use mathlib.Core.List.{List}
-use mathlib.Core.Option.{some, some-injective}
-use mathlib.Core.Path.{◌≡◌, refl, ap, ◌∙◌}
-use Prim.Native.Nat.{ℕ, ◌+◌, ◌*◌, ◌%◌, ◌<◌, ◌≤◌}
-use native.Mathlib.Nat.{mul-le-mul, le_refl, add-mul, one-mul, mul-one}
-use native.Mathlib.Omega.{arith}
+use Rattle.std.specs.Prelude.{Some}
+use mathlib.Core.Path.{◌≡◌, refl}
+use Prim.Native.Nat.{ℕ, ◌+◌, ◌*◌, ◌%◌, ◌<◌}
 use lib.Dec.{eqb, ltb}
 use borrow.Author.Tests.{ltb-true}
 use Rattle.laws.specs.Options.{only_if}
@@ -14,26 +12,13 @@ use Rattle.laws.proofs.Folds.{none_some}
 use Rattle.laws.proofs.Tests.{and_left, and_right}
 use Rattle.ir.specs.declared.frame.Shape.{Shape}
 use Rattle.ir.specs.Words.{main_of, offset_of, row_of}
-use Rattle.values.specs.Values.{Value, base, ext}
-use Rattle.values.specs.Frame.{word, triple}
+use Rattle.values.specs.Values.{Value, base}
+use Rattle.values.specs.Frame.{Lent, word}
 use Rattle.values.specs.Room.{ValueIs}
 use Rattle.blob_rules.specs.Check.{cell_ok}
 use Rattle.slots.specs.Trace.{row_at}
 use Rattle.slots.specs.Steps.{CellGives}
-
--- a cell of a row is before the trace's end
-pub place_below : (r rows width col : ℕ) → r < rows → col < width → r * width + col < rows * width
-place_below r rows width col a b =
-    let q : (r + 1) * width ≤ rows * width = mul-le-mul (omega arith) (le_refl width) in
-    let z : (r + 1) * width ≡ r * width + width = add-mul r 1 width ∙ ap (λ (n : ℕ). r * width + n) (one-mul width) in
-    omega arith
-
--- a trace with a column has no more rows than cells
-pub rows_few : (rows width col : ℕ) → col < width → rows ≤ rows * width
-rows_few rows width col h =
-    let q : rows * 1 ≤ rows * width = mul-le-mul (le_refl rows) (omega arith) in
-    let z = mul-one rows in
-    omega arith
+use Rattle.std.proofs.lemmas.Option.{same_Some}
 
 -- what the check tells of a cell
 pub record CellIn (s : Shape) (x y : ℕ) : Type 0 where
@@ -52,22 +37,15 @@ cell_in s x y h =
     }
 
 -- the value under its tests is the only one
-pub one_value : (t q : Bool) {v w : Value ℕ (List ℕ)} → only_if t (only_if q (some v)) ≡ some w → v ≡ w
-one_value true true {v} {w} h = some-injective v w h
+pub one_value : (t q : Bool) {v w : Value ℕ (List ℕ)} → only_if t (only_if q (Some v)) ≡ Some w → v ≡ w
+one_value true true {v} {w} h = same_Some v w h
 one_value true false h = none_some refl h
 one_value false q h = none_some refl h
 
-module _ (s : Shape) (rows row : ℕ) (main aux : List ℕ) (x y : ℕ) where
-  pub main_gives : {class : ℕ} {limbs : List ℕ} → main_of y ≡ true → ValueIs (base (word main (row_at rows row (offset_of y) * s.main + x))) class limbs → CellGives s rows row main aux x y class limbs
+module _ (s : Shape) (rows row : ℕ) (l : Lent) (x y : ℕ) where
+  pub main_gives : {class : ℕ} {limbs : List ℕ} → main_of y ≡ true → ValueIs (base (word l.main (row_at rows row (offset_of y) * s.main + x))) class limbs → CellGives s rows row l x y class limbs
   main_gives e h =
       record {
         follows = λ u k v z.
             rw (← one_value (ltb x 65536 && ltb y 131072 && eqb (row_of y) 0 && ltb (offset_of y) s.steps) (ltb x s.main) (rw e at z), k.main_cell (offset_of y) x) h;
-      }
-
-  pub aux_gives : {class : ℕ} {limbs : List ℕ} → main_of y ≡ false → ValueIs (ext (triple aux (row_at rows row (offset_of y) * s.aux + x))) class limbs → CellGives s rows row main aux x y class limbs
-  aux_gives e h =
-      record {
-        follows = λ u k v z.
-            rw (← one_value (ltb x 65536 && ltb y 131072 && eqb (row_of y) 0 && ltb (offset_of y) s.steps) (ltb x s.aux) (rw e at z), k.aux_cell (offset_of y) x) h;
       }

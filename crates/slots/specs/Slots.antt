@@ -1,7 +1,6 @@
 -- The slot room: one word for each base slot, then three for each extension slot.
 -- Assumes nothing.
-use Rattle.std.specs.Prelude.{List, [], ◌∷◌, ◌≡◌, ℕ, ◌+◌, ◌*◌, ◌<◌, length, get_or, take, drop}
-use Rattle.std.proofs.Math.Option.{Option, none, some}
+use Rattle.std.specs.Prelude.{List, [], ◌∷◌, ◌≡◌, ℕ, ◌+◌, ◌*◌, ◌<◌, length, get_or, take, drop, Option, None, Some}
 use Rattle.field.specs.Base.{p, ◌≈◌}
 use Rattle.extension.specs.Ext.{limb, Near}
 use Rattle.blob_rules.specs.declared.blob.BlobCounts.{BlobCounts}
@@ -22,13 +21,13 @@ limbs_at l k = take 3 (drop k l)
 
 -- what a base slot holds; 0 where nobody filled it
 abbrev pub held_word : Option ℕ → ℕ
-held_word none = 0
-held_word (some x) = x
+held_word None = 0
+held_word (Some x) = x
 
 -- of an extension slot: three zeros where it was never filled
 abbrev pub held_limbs : Option (List ℕ) → List ℕ
-held_limbs none = 0 ∷ 0 ∷ 0 ∷ []
-held_limbs (some x) = x
+held_limbs None = 0 ∷ 0 ∷ 0 ∷ []
+held_limbs (Some x) = x
 
 -- the room after a walk: each slot's words stand for what it holds and are below p; words past the slots stay
 pub record SlotsEnd (c : BlobCounts) (m : Slots ℕ (List ℕ)) (old new : List ℕ) : Type 0 where

@@ -1,7 +1,6 @@
 -- What the inner functions of the walk ask and do. For inner functions: no public promise cites it.
 -- Assumes nothing.
-use Rattle.std.specs.Prelude.{true, false, cond, List, [], ◌∷◌, ◌≡◌, ℕ, ◌+◌, ◌*◌, ◌<◌, ◌≤◌, ltb, length, get_or, set, drop}
-use Rattle.std.proofs.Math.Option.{none, some}
+use Rattle.std.specs.Prelude.{true, false, cond, List, [], ◌∷◌, ◌≡◌, ℕ, ◌+◌, ◌*◌, ◌<◌, ◌≤◌, ltb, length, get_or, set, drop, None, Some}
 use Rattle.std.proofs.lemmas.List.Edits.{sets}
 use Rattle.laws.specs.Lists.{tabulate}
 use Rattle.field.specs.Base.{p, ◌≈◌}
@@ -13,7 +12,7 @@ use Rattle.values.specs.Room.{ValueIs}
 use Rattle.values.specs.Values.{Value}
 use Rattle.evaluation.specs.Evals.{base_word, ext_words, base_evals_of, ext_evals_of}
 use Rattle.blob_rules.specs.declared.blob.BlobCounts.{BlobCounts}
-use Rattle.blob_rules.specs.Blob.{Instr, instr_at, is_ext, slot_of, base_slots_of, ext_slots_of, num_base_of, tags, kinds}
+use Rattle.blob_rules.specs.Blob.{Instr, instr_at, Blob, is_ext, slot_of, base_slots_of, ext_slots_of, num_base_of, tags, kinds}
 use Rattle.device.specs.StepRule.{Contents, Slots, cell_of, base_operand, ext_operand, value_of, slots_after, root_held}
 use Rattle.blob_rules.specs.Check.{Filled, operand_ok, node_ok, root_ok, filled_after, cleared}
 use Rattle.slots.specs.Slots.{ext_word, slot_words, limbs_at}
@@ -21,8 +20,8 @@ use Rattle.slots.specs.Trace.{row_at, contents}
 
 -- the room's words stand for the slots that are filled
 pub record Holds (c : BlobCounts) (m : Slots ℕ (List ℕ)) (room : List ℕ) : Type 0 where
-  pub bases : (k x : ℕ) → m.bases k ≡ some x → (k < base_slots_of c) × (get_or room k 0 ≈ x)
-  pub exts : (k : ℕ) (x : List ℕ) → m.exts k ≡ some x → (k < ext_slots_of c) × Near 3 (limbs_at room (ext_word c k)) x
+  pub bases : (k x : ℕ) → m.bases k ≡ Some x → (k < base_slots_of c) × (get_or room k 0 ≈ x)
+  pub exts : (k : ℕ) (x : List ℕ) → m.exts k ≡ Some x → (k < ext_slots_of c) × Near 3 (limbs_at room (ext_word c k)) x
 
 -- a base operand that the check let through, whatever shape and whatever slots were filled
 pub record BaseLegal (c : BlobCounts) (w : ℕ) : Type 0 where
@@ -39,102 +38,98 @@ pub record ExtLegal (c : BlobCounts) (s : Shape) (w : ℕ) : Type 0 where
 pub record ReadsBase (c : BlobCounts) (consts room : List ℕ) (w r : ℕ) : Type 0 where
   pub follows :
       (s : Shape) (u : Contents ℕ (List ℕ)) → ((k : ℕ) → u.base_const k ≡ word consts k)
-      → (m : Slots ℕ (List ℕ)) (x : ℕ) → Holds c m room → base_operand kinds c s u m w ≡ some x → r ≈ x
+      → (m : Slots ℕ (List ℕ)) (x : ℕ) → Holds c m room → base_operand kinds c s u m w ≡ Some x → r ≈ x
 
 -- the uniforms that lent words hold
-pub record Uniforms (u : Contents ℕ (List ℕ)) (bases exts challenges alphas offset : List ℕ) : Type 0 where
-  pub base_const : (k : ℕ) → u.base_const k ≡ word bases k
-  pub ext_const : (k : ℕ) → u.ext_const k ≡ triple exts k
-  pub challenge : (k : ℕ) → u.challenge k ≡ triple challenges k
-  pub alpha : (k : ℕ) → u.alpha k ≡ triple alphas k
-  pub table_offset : u.table_offset ≡ remainders 3 offset
+pub record Uniforms (u : Contents ℕ (List ℕ)) (l : Lent) : Type 0 where
+  pub base_const : (k : ℕ) → u.base_const k ≡ word l.bases k
+  pub ext_const : (k : ℕ) → u.ext_const k ≡ triple l.exts k
+  pub challenge : (k : ℕ) → u.challenge k ≡ triple l.challenges k
+  pub alpha : (k : ℕ) → u.alpha k ≡ triple l.alphas k
+  pub table_offset : u.table_offset ≡ remainders 3 l.offset
 
 -- and the words that an extension operand reads
-pub record ReadsExt (c : BlobCounts) (s : Shape) (bases exts challenges alphas offset room : List ℕ) (w : ℕ) (r : List ℕ) : Type 0 where
+pub record ReadsExt (c : BlobCounts) (s : Shape) (l : Lent) (room : List ℕ) (w : ℕ) (r : List ℕ) : Type 0 where
   pub follows :
-      (u : Contents ℕ (List ℕ)) → Uniforms u bases exts challenges alphas offset
-      → (m : Slots ℕ (List ℕ)) (x : List ℕ) → Holds c m room → ext_operand kinds c s u goldilocks m w ≡ some x → Near 3 r x
+      (u : Contents ℕ (List ℕ)) → Uniforms u l
+      → (m : Slots ℕ (List ℕ)) (x : List ℕ) → Holds c m room → ext_operand kinds c s u goldilocks m w ≡ Some x → Near 3 r x
 
 -- the tables that an operand reads are long enough
-pub record UniformsLong (c : BlobCounts) (s : Shape) (bases exts challenges alphas : ℕ) : Type 0 where
-  pub bases_long : c.bases ≤ bases
-  pub exts_long : 3 * c.exts ≤ exts
-  pub challenges_long : 3 * s.challenges ≤ challenges
-  pub alphas_long : 3 * s.alphas ≤ alphas
+pub record UniformsLong (c : BlobCounts) (s : Shape) (l : Lent) : Type 0 where
+  pub bases_long : c.bases ≤ length l.bases
+  pub exts_long : 3 * c.exts ≤ length l.exts
+  pub challenges_long : 3 * s.challenges ≤ length l.challenges
+  pub alphas_long : 3 * s.alphas ≤ length l.alphas
 
 -- ---- leaves
 
 -- the cells that lent words hold
-pub record Cells (u : Contents ℕ (List ℕ)) (s : Shape) (rows row : ℕ) (main aux : List ℕ) : Type 0 where
-  pub main_cell : (step col : ℕ) → u.main step col ≡ word main (row_at rows row step * s.main + col)
-  pub aux_cell : (step col : ℕ) → u.aux step col ≡ triple aux (row_at rows row step * s.aux + col)
+pub record Cells (u : Contents ℕ (List ℕ)) (s : Shape) (rows row : ℕ) (l : Lent) : Type 0 where
+  pub main_cell : (step col : ℕ) → u.main step col ≡ word l.main (row_at rows row step * s.main + col)
+  pub aux_cell : (step col : ℕ) → u.aux step col ≡ triple l.aux (row_at rows row step * s.aux + col)
 
 -- the most cells of a trace, 2^62: a slice of words has no more
 abbrev pub most_cells : ℕ
 most_cells = 4611686018427387904
 
 -- the traces have their rows, and the row is one of them where there is a step
-pub record TraceLong (s : Shape) (rows row main aux : ℕ) : Type 0 where
+pub record TraceLong (s : Shape) (rows row : ℕ) (l : Lent) : Type 0 where
   pub row_in : 0 < s.steps → row < rows
   pub main_few : rows * s.main ≤ most_cells
   pub aux_few : rows * s.aux ≤ most_cells
-  pub main_long : rows * s.main ≤ main
-  pub aux_long : 3 * (rows * s.aux) ≤ aux
+  pub main_long : rows * s.main ≤ length l.main
+  pub aux_long : 3 * (rows * s.aux) ≤ length l.aux
+
+-- what is lent beside the slots is long enough
+pub record LentLong (c : BlobCounts) (s : Shape) (rows row : ℕ) (l : Lent) : Type 0 where
+  pub uniforms : UniformsLong c s l
+  pub trace : TraceLong s rows row l
 
 -- whatever value the words name, the result stands for it
-pub record CellGives (s : Shape) (rows row : ℕ) (main aux : List ℕ) (x y class : ℕ) (limbs : List ℕ) : Type 0 where
+pub record CellGives (s : Shape) (rows row : ℕ) (l : Lent) (x y class : ℕ) (limbs : List ℕ) : Type 0 where
   pub follows :
-      (u : Contents ℕ (List ℕ)) → Cells u s rows row main aux
-      → (v : Value ℕ (List ℕ)) → cell_of u s x y ≡ some v → ValueIs v class limbs
+      (u : Contents ℕ (List ℕ)) → Cells u s rows row l
+      → (v : Value ℕ (List ℕ)) → cell_of u s x y ≡ Some v → ValueIs v class limbs
 
 -- a node that the check let through, whatever slots were filled
 pub record NodeLegal (c : BlobCounts) (s : Shape) (w : Instr) : Type 0 where
   pub filled : Filled
   pub ok : node_ok tags kinds c s filled w ≡ true
 
--- a node's words
-abbrev pub instr : (op a b res : ℕ) → Instr
-instr op a b res = record { op = op; a = a; b = b; res = res }
-
 -- whatever value the rule gives a leaf, the result stands for it
-pub record LeafGives (c : BlobCounts) (s : Shape) (rows row : ℕ) (bases exts main aux challenges alphas offset : List ℕ) (op a b res class : ℕ) (limbs : List ℕ) : Type 0 where
+pub record LeafGives (c : BlobCounts) (s : Shape) (rows row : ℕ) (l : Lent) (w : Instr) (class : ℕ) (limbs : List ℕ) : Type 0 where
   pub follows :
-      (u : Contents ℕ (List ℕ)) → Uniforms u bases exts challenges alphas offset → Cells u s rows row main aux
-      → (m : Slots ℕ (List ℕ)) (v : Value ℕ (List ℕ)) → value_of goldilocks tags kinds c s u m (instr op a b res) ≡ some v → ValueIs v class limbs
+      (u : Contents ℕ (List ℕ)) → Uniforms u l → Cells u s rows row l
+      → (m : Slots ℕ (List ℕ)) (v : Value ℕ (List ℕ)) → value_of goldilocks tags kinds c s u m w ≡ Some v → ValueIs v class limbs
 
 -- ---- operations
 
--- whatever value the rule gives a base result, the word stands for it
-pub record BaseGives (c : BlobCounts) (consts room : List ℕ) (op a b r : ℕ) : Type 0 where
+-- whatever value the rule gives a base result, in whichever slot, the word stands for it
+pub record BaseGives (c : BlobCounts) (consts room : List ℕ) (w : Instr) (r : ℕ) : Type 0 where
   pub follows :
       (s : Shape) (u : Contents ℕ (List ℕ)) → ((k : ℕ) → u.base_const k ≡ word consts k)
       → (m : Slots ℕ (List ℕ)) (v : Value ℕ (List ℕ)) (res : ℕ) → Holds c m room → is_ext res ≡ false
-      → value_of goldilocks tags kinds c s u m (instr op a b res) ≡ some v → ValueIs v 0 (r ∷ 0 ∷ 0 ∷ [])
+      → value_of goldilocks tags kinds c s u m (record { op = w.op; a = w.a; b = w.b; res = res }) ≡ Some v → ValueIs v 0 (r ∷ 0 ∷ 0 ∷ [])
 
 -- and an extension result
-pub record ExtGives (c : BlobCounts) (s : Shape) (bases exts challenges alphas offset room : List ℕ) (op a b : ℕ) (limbs : List ℕ) : Type 0 where
+pub record ExtGives (c : BlobCounts) (s : Shape) (l : Lent) (room : List ℕ) (w : Instr) (limbs : List ℕ) : Type 0 where
   pub follows :
-      (u : Contents ℕ (List ℕ)) → Uniforms u bases exts challenges alphas offset
+      (u : Contents ℕ (List ℕ)) → Uniforms u l
       → (m : Slots ℕ (List ℕ)) (v : Value ℕ (List ℕ)) (res : ℕ) → Holds c m room → is_ext res ≡ true
-      → value_of goldilocks tags kinds c s u m (instr op a b res) ≡ some v → ValueIs v 1 limbs
+      → value_of goldilocks tags kinds c s u m (record { op = w.op; a = w.a; b = w.b; res = res }) ≡ Some v → ValueIs v 1 limbs
 
 -- and a result of either class
-pub record OperationGives (c : BlobCounts) (s : Shape) (bases exts challenges alphas offset room : List ℕ) (w : Instr) (class : ℕ) (limbs : List ℕ) : Type 0 where
+pub record OperationGives (c : BlobCounts) (s : Shape) (l : Lent) (room : List ℕ) (w : Instr) (class : ℕ) (limbs : List ℕ) : Type 0 where
   pub follows :
-      (u : Contents ℕ (List ℕ)) → Uniforms u bases exts challenges alphas offset
+      (u : Contents ℕ (List ℕ)) → Uniforms u l
       → (m : Slots ℕ (List ℕ)) (v : Value ℕ (List ℕ)) → Holds c m room
-      → value_of goldilocks tags kinds c s u m w ≡ some v → ValueIs v class limbs
+      → value_of goldilocks tags kinds c s u m w ≡ Some v → ValueIs v class limbs
 
 -- whatever value the rule gives a node, the result stands for it
 pub record NodeGives (c : BlobCounts) (s : Shape) (rows row : ℕ) (l : Lent) (room : List ℕ) (w : Instr) (class : ℕ) (limbs : List ℕ) : Type 0 where
   pub follows :
       (m : Slots ℕ (List ℕ)) (v : Value ℕ (List ℕ)) → Holds c m room
-      → value_of goldilocks tags kinds c s (contents rows row s l) m w ≡ some v → ValueIs v class limbs
-
--- what is lent beside the slots is long enough
-pub record LentLong (c : BlobCounts) (s : Shape) (rows row : ℕ) (l : Lent) : Type 0 where
-  pub uniforms : UniformsLong c s (length l.bases) (length l.exts) (length l.challenges) (length l.alphas)
-  pub trace : TraceLong s rows row (length l.main) (length l.aux)
+      → value_of goldilocks tags kinds c s (contents rows row s l) m w ≡ Some v → ValueIs v class limbs
 
 -- ---- the room
 
@@ -146,10 +141,10 @@ stored c res limbs room =
 -- the room stands for the slots that are filled, with words below p; other words are as they were
 pub record RoomKept (c : BlobCounts) (m : Slots ℕ (List ℕ)) (old new : List ℕ) : Type 0 where
   pub holds : Holds c m new
-  pub base_low : (k x : ℕ) → m.bases k ≡ some x → get_or new k 0 < p
-  pub base_kept : (k : ℕ) → k < base_slots_of c → m.bases k ≡ none → get_or new k 0 ≡ get_or old k 0
-  pub ext_low : (k : ℕ) (x : List ℕ) → m.exts k ≡ some x → (i : ℕ) → i < 3 → limb (limbs_at new (ext_word c k)) i < p
-  pub ext_kept : (k : ℕ) → k < ext_slots_of c → m.exts k ≡ none → limbs_at new (ext_word c k) ≡ limbs_at old (ext_word c k)
+  pub base_low : (k x : ℕ) → m.bases k ≡ Some x → get_or new k 0 < p
+  pub base_kept : (k : ℕ) → k < base_slots_of c → m.bases k ≡ None → get_or new k 0 ≡ get_or old k 0
+  pub ext_low : (k : ℕ) (x : List ℕ) → m.exts k ≡ Some x → (i : ℕ) → i < 3 → limb (limbs_at new (ext_word c k)) i < p
+  pub ext_kept : (k : ℕ) → k < ext_slots_of c → m.exts k ≡ None → limbs_at new (ext_word c k) ≡ limbs_at old (ext_word c k)
   pub rest : drop (slot_words c) new ≡ drop (slot_words c) old
   pub long : length new ≡ length old
 
@@ -161,13 +156,15 @@ pub record StepStores (c : BlobCounts) (s : Shape) (rows row : ℕ) (l : Lent) (
   pub stores : new ≡ stored c w.res limbs old
 
 -- the nodes that the check let through
-pub record NodesLegal (c : BlobCounts) (s : Shape) (nodes : List ℕ) : Type 0 where
-  pub nodes_long : 4 * c.nodes ≤ length nodes
-  pub node : (i : ℕ) → i < c.nodes → node_ok tags kinds c s (filled_after nodes i) (instr_at nodes i) ≡ true
+pub record NodesLegal (b : Blob) (s : Shape) : Type 0 where
+  pub nodes_long : 4 * b.counts.nodes ≤ length b.nodes
+  pub node : (i : ℕ) → i < b.counts.nodes → node_ok tags kinds b.counts s (filled_after b.nodes i) (instr_at b.nodes i) ≡ true
 
 -- what the pass over the nodes of one row does
-pub record RowWalked (c : BlobCounts) (s : Shape) (rows row : ℕ) (l : Lent) (nodes : List ℕ) (n : ℕ) (old new : List ℕ) : Type 0 where
-  pub follows : (m : Slots ℕ (List ℕ)) → slots_after goldilocks tags kinds c s (contents rows row s l) nodes n ≡ some m → RoomKept c m old new
+pub record RowWalked (b : Blob) (s : Shape) (rows row : ℕ) (l : Lent) (n : ℕ) (old new : List ℕ) : Type 0 where
+  pub follows :
+      (m : Slots ℕ (List ℕ)) → slots_after goldilocks tags kinds b.counts s (contents rows row s l) b.nodes n ≡ Some m
+      → RoomKept b.counts m old new
   pub long : length new ≡ length old
 
 -- ---- roots
@@ -179,7 +176,7 @@ pub record RootLegal (c : BlobCounts) (w : ℕ) : Type 0 where
 
 -- whatever value a root names, its words are read, below p
 pub record RootReads (c : BlobCounts) (room : List ℕ) (w : ℕ) (limbs : List ℕ) : Type 0 where
-  pub follows : (m : Slots ℕ (List ℕ)) (v : Value ℕ (List ℕ)) → Holds c m room → root_held m w ≡ some v → limbs ≡ ext_words v
+  pub follows : (m : Slots ℕ (List ℕ)) (v : Value ℕ (List ℕ)) → Holds c m room → root_held m w ≡ Some v → limbs ≡ ext_words v
   pub long : length limbs ≡ 3
 
 -- root i has its place among the evals
@@ -190,42 +187,44 @@ pub record RootPlace (i leading bases exts : ℕ) : Type 0 where
 -- root i is written, and nothing else is
 pub record RootWritten (c : BlobCounts) (i leading : ℕ) (room : List ℕ) (w : ℕ) (bases bases' exts exts' : List ℕ) : Type 0 where
   pub follows :
-      (m : Slots ℕ (List ℕ)) (v : Value ℕ (List ℕ)) → Holds c m room → root_held m w ≡ some v
+      (m : Slots ℕ (List ℕ)) (v : Value ℕ (List ℕ)) → Holds c m room → root_held m w ≡ Some v
       → (bases' ≡ cond (ltb i leading) (set bases i (base_word v)) bases) × (exts' ≡ cond (ltb i leading) exts (sets exts (3 * i) (ext_words v)))
   pub bases_long : length bases' ≡ length bases
   pub exts_long : length exts' ≡ length exts
 
 -- what the writing of all roots asks
-pub record RootsReady (c : BlobCounts) (count leading : ℕ) (roots : List ℕ) (bases exts : ℕ) : Type 0 where
-  pub roots_long : count ≤ length roots
-  pub legal : (i : ℕ) → i < count → RootLegal c (get_or roots i 0)
-  pub place : (i : ℕ) → i < count → RootPlace i leading bases exts
+pub record RootsReady (b : Blob) (bases exts : ℕ) : Type 0 where
+  pub roots_long : b.counts.roots ≤ length b.roots
+  pub legal : (i : ℕ) → i < b.counts.roots → RootLegal b.counts (get_or b.roots i 0)
+  pub place : (i : ℕ) → i < b.counts.roots → RootPlace i (num_base_of b.counts) bases exts
 
--- and does
-pub record RootsWritten (c : BlobCounts) (count leading : ℕ) (roots room bases bases' exts exts' : List ℕ) : Type 0 where
+-- and does: the first n are written
+pub record RootsWritten (b : Blob) (n : ℕ) (room bases bases' exts exts' : List ℕ) : Type 0 where
   pub follows :
-      (m : Slots ℕ (List ℕ)) (env : ℕ → Value ℕ (List ℕ)) → Holds c m room
-      → ((i : ℕ) → i < count → root_held m (get_or roots i 0) ≡ some (env (get_or roots i 0)))
-      → (bases' ≡ base_evals_of env roots leading count bases) × (exts' ≡ ext_evals_of env roots leading count exts)
+      (m : Slots ℕ (List ℕ)) (env : ℕ → Value ℕ (List ℕ)) → Holds b.counts m room
+      → ((i : ℕ) → i < n → root_held m (get_or b.roots i 0) ≡ Some (env (get_or b.roots i 0)))
+      → (bases' ≡ base_evals_of env b.roots (num_base_of b.counts) n bases) × (exts' ≡ ext_evals_of env b.roots (num_base_of b.counts) n exts)
   pub bases_long : length bases' ≡ length bases
   pub exts_long : length exts' ≡ length exts
 
 -- ---- a whole row
 
 -- what the walk of a row asks
-pub record RowReady (c : BlobCounts) (s : Shape) (rows row : ℕ) (l : Lent) (nodes roots : List ℕ) (base ext slots : ℕ) : Type 0 where
-  pub nodes_legal : NodesLegal c s nodes
-  pub lent_long : LentLong c s rows row l
-  pub roots_ready : RootsReady c c.roots (num_base_of c) roots base ext
-  pub slots_long : slot_words c ≤ slots
+pub record RowReady (b : Blob) (s : Shape) (rows row : ℕ) (l : Lent) (base ext slots : ℕ) : Type 0 where
+  pub nodes_legal : NodesLegal b s
+  pub lent_long : LentLong b.counts s rows row l
+  pub roots_ready : RootsReady b base ext
+  pub slots_long : slot_words b.counts ≤ slots
 
 -- and does: each root's value is written, and slots that it fills hold the rule's values
-pub record RowDone (c : BlobCounts) (s : Shape) (rows row : ℕ) (l : Lent) (nodes roots base base' ext ext' slots slots' : List ℕ) : Type 0 where
+pub record RowDone (b : Blob) (s : Shape) (rows row : ℕ) (l : Lent) (base base' ext ext' slots slots' : List ℕ) : Type 0 where
   pub follows :
-      (m : Slots ℕ (List ℕ)) (env : ℕ → Value ℕ (List ℕ)) → slots_after goldilocks tags kinds c s (contents rows row s l) nodes c.nodes ≡ some m
-      → ((i : ℕ) → i < c.roots → root_held m (get_or roots i 0) ≡ some (env (get_or roots i 0)))
-      → RoomKept c m slots slots' × (base' ≡ base_evals_of env roots (num_base_of c) c.roots base) × (ext' ≡ ext_evals_of env roots (num_base_of c) c.roots ext)
+      (m : Slots ℕ (List ℕ)) (env : ℕ → Value ℕ (List ℕ)) → slots_after goldilocks tags kinds b.counts s (contents rows row s l) b.nodes b.counts.nodes ≡ Some m
+      → ((i : ℕ) → i < b.counts.roots → root_held m (get_or b.roots i 0) ≡ Some (env (get_or b.roots i 0)))
+      → RoomKept b.counts m slots slots'
+      × (base' ≡ base_evals_of env b.roots (num_base_of b.counts) b.counts.roots base)
+      × (ext' ≡ ext_evals_of env b.roots (num_base_of b.counts) b.counts.roots ext)
 
 -- the same from slots that hold anything: they are cleared first
-pub record FrameWalked (c : BlobCounts) (s : Shape) (l : Lent) (nodes roots base base' ext ext' slots slots' : List ℕ) : Type 0 where
-  pub done : RowDone c s s.steps 0 l nodes roots base base' ext ext' (cleared (slot_words c) slots) slots'
+pub record FrameWalked (b : Blob) (s : Shape) (l : Lent) (base base' ext ext' slots slots' : List ℕ) : Type 0 where
+  pub done : RowDone b s s.steps 0 l base base' ext ext' (cleared (slot_words b.counts) slots) slots'

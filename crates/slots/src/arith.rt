@@ -1,14 +1,17 @@
 // Operations on operands, in the base field and in the extension.
 ghost use Rattle.std.specs.Prelude.{cond, ◌≡◌, ◌<◌, ◌≤◌, eqb, length};
+ghost use Rattle.values.specs.Frame.{lent_in};
+ghost use Rattle.blob_rules.specs.Blob.{instr_of};
 ghost use Rattle.slots.specs.Slots.{slot_words};
 ghost use Rattle.slots.specs.Steps.{BaseLegal, ExtLegal, UniformsLong, BaseGives, ExtGives};
 
 use super::load::{load_base, load_ext};
-use blob_rules::blob::BlobCounts;
+use blob_rules::blob::{BlobCounts, NodeWords};
 use extension::extensions_goldilocks::Ext;
 use field::goldilocks::Fp;
 use ir::frame::Shape;
 use ir::node::{OP_MUL, OP_NEG, OP_SUB};
+use values::frame::Inputs;
 
 // The result of an operation, out of those of all three. This takes no jump: which operation comes next cannot be foretold,
 // and a jump gone wrong costs more than computing all three.
@@ -20,28 +23,29 @@ fn chosen(op: u32, sum: u64, difference: u64, product: u64) -> u64
 }
 
 // Add, Sub or Mul of base operands.
-fn base_binary(c: BlobCounts, op: u32, a: u32, b: u32, bases: &[u64], slots: &[u64]) -> u64
-    requires { (6 ≤ op) × (op < 9) × (c.bases ≤ length bases.now) × (slot_words c ≤ length slots.now) × BaseLegal c a × BaseLegal c b }
-    ensures { BaseGives c bases.now slots.now op a b result }
+fn base_binary(c: BlobCounts, w: NodeWords, bases: &[u64], slots: &[u64]) -> u64
+    requires { (6 ≤ w.op) × (w.op < 9) × (c.bases ≤ length bases.now) × (slot_words c ≤ length slots.now) × BaseLegal c w.a × BaseLegal c w.b }
+    ensures { BaseGives c bases.now slots.now (instr_of w) result }
 {
-    let x = load_base(c, a, bases, slots);
-    let y = load_base(c, b, bases, slots);
-    chosen(op, Fp::add(x, y), Fp::sub(x, y), Fp::mul(x, y))
+    let x = load_base(c, w.a, bases, slots);
+    let y = load_base(c, w.b, bases, slots);
+    chosen(w.op, Fp::add(x, y), Fp::sub(x, y), Fp::mul(x, y))
 }
 
 // An operation whose result is base.
-pub fn base_arith(c: BlobCounts, op: u32, a: u32, b: u32, bases: &[u64], slots: &[u64]) -> u64
-    requires { (6 ≤ op) × (op < 10) × (c.bases ≤ length bases.now) × (slot_words c ≤ length slots.now) × BaseLegal c a × (op < 9 → BaseLegal c b) }
-    ensures { BaseGives c bases.now slots.now op a b result }
+pub fn base_arith(c: BlobCounts, w: NodeWords, bases: &[u64], slots: &[u64]) -> u64
+    requires { (6 ≤ w.op) × (w.op < 10) × (c.bases ≤ length bases.now) × (slot_words c ≤ length slots.now) × BaseLegal c w.a × (w.op < 9 → BaseLegal c w.b) }
+    ensures { BaseGives c bases.now slots.now (instr_of w) result }
 {
-    if op < OP_NEG {
-        base_binary(c, op, a, b, bases, slots)
+    if w.op < OP_NEG {
+        base_binary(c, w, bases, slots)
     } else {
-        Fp::neg(load_base(c, a, bases, slots))
+        Fp::neg(load_base(c, w.a, bases, slots))
     }
 }
 
-// The same of two extension results; the product costs too much to be computed along.
+// The same of two extension results; the product costs too much to be computed along. Two values and a number and no closure:
+// this compiles to a choice with no jump.
 fn either(op: u32, sum: Ext, difference: Ext) -> Ext
     ensures { result.limbs ≡ cond (eqb op 7) difference.limbs sum.limbs }
 {
@@ -49,52 +53,27 @@ fn either(op: u32, sum: Ext, difference: Ext) -> Ext
 }
 
 // Add, Sub or Mul of operands as extension values.
-fn ext_binary(
-    c: BlobCounts,
-    s: Shape,
-    op: u32,
-    a: u32,
-    b: u32,
-    offset: Ext,
-    bases: &[u64],
-    exts: &[u64],
-    challenges: &[u64],
-    alphas: &[u64],
-    slots: &[u64],
-) -> Ext
-    requires { (6 ≤ op) × (op < 9) × UniformsLong c s (length bases.now) (length exts.now) (length challenges.now) (length alphas.now) × (slot_words c ≤ length slots.now) × ExtLegal c s a × ExtLegal c s b }
-    ensures { ExtGives c s bases.now exts.now challenges.now alphas.now offset.limbs slots.now op a b result.limbs }
+fn ext_binary(c: BlobCounts, s: Shape, w: NodeWords, inputs: &Inputs, slots: &[u64]) -> Ext
+    requires { (6 ≤ w.op) × (w.op < 9) × UniformsLong c s (lent_in inputs.now) × (slot_words c ≤ length slots.now) × ExtLegal c s w.a × ExtLegal c s w.b }
+    ensures { ExtGives c s (lent_in inputs.now) slots.now (instr_of w) result.limbs }
 {
-    let x = load_ext(c, s, a, offset, bases, exts, challenges, alphas, slots);
-    let y = load_ext(c, s, b, offset, bases, exts, challenges, alphas, slots);
-    if op == OP_MUL {
-        return x.mul(y);
+    let x = load_ext(c, s, w.a, inputs, slots);
+    let y = load_ext(c, s, w.b, inputs, slots);
+    if w.op == OP_MUL {
+        x.mul(y)
+    } else {
+        either(w.op, x.add(y), x.sub(y))
     }
-    either(op, x.add(y), x.sub(y))
 }
 
 // An operation whose result is extension: the negation or the embedding, where it is none of the three.
-pub fn ext_arith(
-    c: BlobCounts,
-    s: Shape,
-    op: u32,
-    a: u32,
-    b: u32,
-    offset: Ext,
-    bases: &[u64],
-    exts: &[u64],
-    challenges: &[u64],
-    alphas: &[u64],
-    slots: &[u64],
-) -> Ext
-    requires { (6 ≤ op) × (op ≤ 10) × UniformsLong c s (length bases.now) (length exts.now) (length challenges.now) (length alphas.now) × (slot_words c ≤ length slots.now) × ExtLegal c s a × (op < 9 → ExtLegal c s b) }
-    ensures { ExtGives c s bases.now exts.now challenges.now alphas.now offset.limbs slots.now op a b result.limbs }
+pub fn ext_arith(c: BlobCounts, s: Shape, w: NodeWords, inputs: &Inputs, slots: &[u64]) -> Ext
+    requires { (6 ≤ w.op) × (w.op ≤ 10) × UniformsLong c s (lent_in inputs.now) × (slot_words c ≤ length slots.now) × ExtLegal c s w.a × (w.op < 9 → ExtLegal c s w.b) }
+    ensures { ExtGives c s (lent_in inputs.now) slots.now (instr_of w) result.limbs }
 {
-    if op < OP_NEG {
-        return ext_binary(
-            c, s, op, a, b, offset, bases, exts, challenges, alphas, slots,
-        );
+    if w.op < OP_NEG {
+        return ext_binary(c, s, w, inputs, slots);
     }
-    let x = load_ext(c, s, a, offset, bases, exts, challenges, alphas, slots);
-    if op == OP_NEG { x.neg() } else { x.reduce() }
+    let x = load_ext(c, s, w.a, inputs, slots);
+    if w.op == OP_NEG { x.neg() } else { x.reduce() }
 }

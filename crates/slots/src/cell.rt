@@ -1,10 +1,12 @@
 // Cells of a trace, for one of its rows.
-ghost use Rattle.std.specs.Prelude.{true, ◌≡◌, ◌+◌, ◌*◌, ◌%◌, ◌<◌, ◌≤◌, length};
+ghost use Rattle.std.specs.Prelude.{true, ◌≡◌, ◌+◌, ◌*◌, ◌%◌, ◌<◌, ◌≤◌};
+ghost use Rattle.values.specs.Frame.{lent_in};
 ghost use Rattle.blob_rules.specs.Check.{cell_ok};
 ghost use Rattle.slots.specs.Trace.{row_at};
 ghost use Rattle.slots.specs.Steps.{most_cells, TraceLong, CellGives};
 
 use ir::frame::Shape;
+use values::frame::Inputs;
 use values::value::{Value, base_leaf, ext_leaf};
 
 // A trace's rows, and the one that is walked.
@@ -30,15 +32,15 @@ fn cell_place(t: Row, step: usize, width: usize, col: usize) -> usize
     around(t.row + step, t.rows) * width + col
 }
 
-pub fn cell(s: Shape, t: Row, x: u32, y: u32, main: &[u64], aux: &[u64]) -> Value
-    requires { (cell_ok s x y ≡ true) × TraceLong s t.rows t.row (length main.now) (length aux.now) }
-    ensures { CellGives s t.rows t.row main.now aux.now x y result.class result.limbs.limbs }
+pub fn cell(s: Shape, t: Row, x: u32, y: u32, inputs: &Inputs) -> Value
+    requires { (cell_ok s x y ≡ true) × TraceLong s t.rows t.row (lent_in inputs.now) }
+    ensures { CellGives s t.rows t.row (lent_in inputs.now) x y result.class result.limbs.limbs }
 {
     let step = (y / 256 % 256) as usize;
     let col = x as usize;
     if y / 65536 % 2 != 0 {
-        base_leaf(main[cell_place(t, step, s.main, col)])
+        base_leaf(inputs.main[cell_place(t, step, s.main, col)])
     } else {
-        ext_leaf(aux, cell_place(t, step, s.aux, col))
+        ext_leaf(inputs.aux, cell_place(t, step, s.aux, col))
     }
 }

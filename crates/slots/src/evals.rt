@@ -1,9 +1,10 @@
 // The roots' values, written below p where a caller reads them.
 ghost use Rattle.std.specs.Prelude.{◌≡◌, ◌≤◌, length};
+ghost use Rattle.blob_rules.specs.Blob.{lent_blob};
 ghost use Rattle.slots.specs.Slots.{slot_words};
 ghost use Rattle.slots.specs.Steps.{RootLegal, RootReads, RootPlace, RootWritten, RootsReady, RootsWritten};
 
-use blob_rules::blob::{BlobCounts, is_ext, slot_of};
+use blob_rules::blob::{BlobCounts, BlobRef, is_ext, slot_of};
 use extension::extensions_goldilocks::Ext;
 
 // A root's value as an extension value.
@@ -36,33 +37,20 @@ fn write_root(
     if i < leading {
         bases[i] = v.limbs[0];
     } else {
-        v.store(&mut exts[..], 3 * i);
+        v.store(exts, 3 * i);
     }
 }
 
-pub fn write_roots(
-    c: BlobCounts,
-    count: usize,
-    leading: usize,
-    roots: &[u32],
-    slots: &[u64],
-    bases: &mut [u64],
-    exts: &mut [u64],
-)
-    requires { RootsReady c count leading roots.now (length bases.old) (length exts.old) × (slot_words c ≤ length slots.now) }
-    ensures { RootsWritten c count leading roots.now slots.now bases.old bases.new exts.old exts.new }
+// The one for a room of values reads four words each and shares the loop alone.
+pub fn write_roots(blob: &BlobRef, slots: &[u64], bases: &mut [u64], exts: &mut [u64])
+    requires { RootsReady (lent_blob blob.now) (length bases.old) (length exts.old) × (slot_words blob.now.counts ≤ length slots.now) }
+    ensures { RootsWritten (lent_blob blob.now) blob.now.counts.roots slots.now bases.old bases.new exts.old exts.new }
 {
-    let mut i: usize = 0;
-    while i < count {
-        write_root(
-            c,
-            i,
-            leading,
-            roots[i],
-            slots,
-            &mut bases[..],
-            &mut exts[..],
-        );
-        i += 1;
+    let c = blob.counts;
+    let count = c.roots as usize;
+    let leading = c.num_base as usize;
+    for i in 0..count {
+        let w = blob.roots[i];
+        write_root(c, i, leading, w, slots, bases, exts);
     }
 }

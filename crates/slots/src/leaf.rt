@@ -1,39 +1,26 @@
 // The value of a leaf: a table's entry, a cell or the table offset.
-ghost use Rattle.std.specs.Prelude.{◌<◌, length};
-ghost use Rattle.slots.specs.Steps.{TraceLong, UniformsLong, NodeLegal, instr, LeafGives};
+ghost use Rattle.std.specs.Prelude.{◌<◌};
+ghost use Rattle.values.specs.Frame.{lent_in};
+ghost use Rattle.blob_rules.specs.Blob.{instr_of};
+ghost use Rattle.slots.specs.Steps.{LentLong, NodeLegal, LeafGives};
 
 use super::cell::{Row, cell};
-use blob_rules::blob::BlobCounts;
-use extension::extensions_goldilocks::Ext;
+use blob_rules::blob::{BlobCounts, NodeWords};
 use ir::frame::Shape;
 use ir::node::{OP_ALPHA_POW, OP_CONST_BASE, OP_CONST_EXT, OP_RAP_CHALLENGE, OP_VAR};
+use values::frame::Inputs;
 use values::value::{Value, base_leaf, ext_leaf, offset_leaf};
 
-pub fn leaf(
-    c: BlobCounts,
-    s: Shape,
-    t: Row,
-    op: u32,
-    a: u32,
-    b: u32,
-    res: u32,
-    offset: Ext,
-    bases: &[u64],
-    exts: &[u64],
-    main: &[u64],
-    aux: &[u64],
-    challenges: &[u64],
-    alphas: &[u64],
-) -> Value
-    requires { (op < 6) × NodeLegal c s (instr op a b res) × UniformsLong c s (length bases.now) (length exts.now) (length challenges.now) (length alphas.now) × TraceLong s t.rows t.row (length main.now) (length aux.now) }
-    ensures { LeafGives c s t.rows t.row bases.now exts.now main.now aux.now challenges.now alphas.now offset.limbs op a b res result.class result.limbs.limbs }
+pub fn leaf(c: BlobCounts, s: Shape, t: Row, w: NodeWords, inputs: &Inputs) -> Value
+    requires { (w.op < 6) × NodeLegal c s (instr_of w) × LentLong c s t.rows t.row (lent_in inputs.now) }
+    ensures { LeafGives c s t.rows t.row (lent_in inputs.now) (instr_of w) result.class result.limbs.limbs }
 {
-    match op {
-        OP_CONST_BASE => base_leaf(bases[a as usize]),
-        OP_CONST_EXT => ext_leaf(exts, a as usize),
-        OP_VAR => cell(s, t, a, b, main, aux),
-        OP_RAP_CHALLENGE => ext_leaf(challenges, a as usize),
-        OP_ALPHA_POW => ext_leaf(alphas, a as usize),
-        _ => offset_leaf(offset),
+    match w.op {
+        OP_CONST_BASE => base_leaf(inputs.bases[w.a as usize]),
+        OP_CONST_EXT => ext_leaf(inputs.exts, w.a as usize),
+        OP_VAR => cell(s, t, w.a, w.b, inputs),
+        OP_RAP_CHALLENGE => ext_leaf(inputs.challenges, w.a as usize),
+        OP_ALPHA_POW => ext_leaf(inputs.alphas, w.a as usize),
+        _ => offset_leaf(inputs.offset),
     }
 }

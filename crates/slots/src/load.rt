@@ -1,5 +1,6 @@
 // What an operand word names.
 ghost use Rattle.std.specs.Prelude.{◌≡◌, ◌+◌, ◌*◌, ◌≤◌, length};
+ghost use Rattle.values.specs.Frame.{lent_in};
 ghost use Rattle.slots.specs.Slots.{slot_words};
 ghost use Rattle.slots.specs.Steps.{BaseLegal, ExtLegal, ReadsBase, ReadsExt, UniformsLong};
 
@@ -9,6 +10,7 @@ use blob_rules::blob::{
 };
 use extension::extensions_goldilocks::Ext;
 use ir::frame::Shape;
+use values::frame::Inputs;
 
 // An operand of a base result: a base slot or a base constant.
 pub fn load_base(c: BlobCounts, w: u32, bases: &[u64], slots: &[u64]) -> u64
@@ -23,29 +25,19 @@ pub fn load_base(c: BlobCounts, w: u32, bases: &[u64], slots: &[u64]) -> u64
 }
 
 // An operand of an extension result: a base one is embedded.
-pub fn load_ext(
-    c: BlobCounts,
-    s: Shape,
-    w: u32,
-    offset: Ext,
-    bases: &[u64],
-    exts: &[u64],
-    challenges: &[u64],
-    alphas: &[u64],
-    slots: &[u64],
-) -> Ext
-    requires { UniformsLong c s (length bases.now) (length exts.now) (length challenges.now) (length alphas.now) × (slot_words c ≤ length slots.now) × ExtLegal c s w }
-    ensures { ReadsExt c s bases.now exts.now challenges.now alphas.now offset.limbs slots.now w result.limbs }
+pub fn load_ext(c: BlobCounts, s: Shape, w: u32, inputs: &Inputs, slots: &[u64]) -> Ext
+    requires { UniformsLong c s (lent_in inputs.now) × (slot_words c ≤ length slots.now) × ExtLegal c s w }
+    ensures { ReadsExt c s (lent_in inputs.now) slots.now w result.limbs }
 {
     let k = payload_of(w) as usize;
     let base_slots = c.base_slots as usize;
     match kind_of(w) {
         OPK_BASE_SLOT => Ext::embed(slots[k]),
         OPK_EXT_SLOT => Ext::load(slots, base_slots + 3 * k),
-        OPK_BASE_CONST => Ext::embed(bases[k]),
-        OPK_EXT_CONST => Ext::load(exts, 3 * k),
-        OPK_RAP => Ext::load(challenges, 3 * k),
-        OPK_ALPHA => Ext::load(alphas, 3 * k),
-        _ => offset,
+        OPK_BASE_CONST => Ext::embed(inputs.bases[k]),
+        OPK_EXT_CONST => Ext::load(inputs.exts, 3 * k),
+        OPK_RAP => Ext::load(inputs.challenges, 3 * k),
+        OPK_ALPHA => Ext::load(inputs.alphas, 3 * k),
+        _ => inputs.offset,
     }
 }

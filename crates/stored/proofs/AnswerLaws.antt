@@ -1,5 +1,6 @@
 -- What writing and reading answer, test by test.
 -- Assumes nothing.
+use Rattle.std.specs.Prelude.{Ok, Err}
 use mathlib.Core.Bool.{Bool, true, false, not, ◌||◌}
 use mathlib.Core.List.{List}
 use mathlib.Core.Path.{◌≡◌, refl, sym, ap, ◌∙◌}
@@ -15,8 +16,6 @@ use Rattle.ir.specs.declared.refusal.Refusal.{Refusal}
 use Rattle.ir.specs.declared.refusal.Refusal.TheVariants.{ShortMemory, ShortOutput, BadFraming}
 use Rattle.ir.specs.Refusals.{Said, said_of}
 use Rattle.blob_rules.specs.declared.blob.BlobCounts.{BlobCounts}
-use Rattle.stored.specs.declared.write.Stored.TheVariants as Stored
-use Rattle.stored.specs.declared.read.ReadStored.TheVariants as ReadStored
 use Rattle.stored_parts.specs.Form.{Tables, spread, named, body, distance, size, stored, trailer_words, trailer_word, counts_in, bad_framing, tables_in}
 use Rattle.stored_parts.specs.Rooms.{short_tables, Long, no_room}
 use Rattle.stored.specs.Answer.{write_said, WriteAnswer, put, read_said, ReadAnswer}
@@ -54,7 +53,7 @@ has_room words room h k = rw (le-ltb _ _ h, le-ltb _ _ k)
 
 module _ (c : BlobCounts) (t : Tables) (out : List ℕ) where
   -- the file stands in the room
-  pub write_gives : short_tables c t ≡ false → no_room (distance c) (length out) ≡ false → WriteAnswer c t out (Stored.Written (size c)) (sets out 0 (stored c t))
+  pub write_gives : short_tables c t ≡ false → no_room (distance c) (length out) ≡ false → WriteAnswer c t out (Ok (size c)) (sets out 0 (stored c t))
   unfolding write_said
   write_gives s n = record { said = rw (s, n); wrote = rw (s, n) }
 
@@ -65,7 +64,7 @@ module _ (c : BlobCounts) (t : Tables) (out : List ℕ) where
     pub bytes_are : bytes ≡ size c
     pub file_stands : new ≡ sets out 0 (stored c t)
 
-  pub wrote_ok : {bytes : ℕ} {new : List ℕ} → WriteAnswer c t out (Stored.Written bytes) new → Wrote bytes new
+  pub wrote_ok : {bytes : ℕ} {new : List ℕ} → WriteAnswer c t out (Ok bytes) new → Wrote bytes new
   unfolding write_said
   wrote_ok {bytes} {new} a =
       by_test (short_tables c t) (Wrote bytes new)
@@ -81,22 +80,22 @@ module _ (c : BlobCounts) (t : Tables) (out : List ℕ) where
         file_stands = rw (h, k) at a.wrote;
       }
 
-  write_refused : (r : Refusal) → eqb (said_of r).number 0 ≡ false → write_said c t out ≡ said_of r → WriteAnswer c t out (Stored.Refused r) out
+  write_refused : (r : Refusal) → eqb (said_of r).number 0 ≡ false → write_said c t out ≡ said_of r → WriteAnswer c t out (Err r) out
   write_refused r z e = record { said = sym e; wrote = rw (e, z) refl }
 
   -- a table is too short
-  pub write_short : {s : Bool} → s ≡ short_tables c t → s ≡ true → WriteAnswer c t out (Stored.Refused ShortMemory) out
+  pub write_short : {s : Bool} → s ≡ short_tables c t → s ≡ true → WriteAnswer c t out (Err ShortMemory) out
   unfolding write_said
   write_short e h = write_refused ShortMemory refl (rw (sym e ∙ h) refl)
 
   module _ {s : Bool} (e : s ≡ short_tables c t) (h : s ≡ false) {words : ℕ} (w : words ≡ distance c) {n : Bool} (m : n ≡ no_room words (length out)) where
     -- there is no room
-    pub write_crowded : n ≡ true → WriteAnswer c t out (Stored.Refused ShortOutput) out
+    pub write_crowded : n ≡ true → WriteAnswer c t out (Err ShortOutput) out
     unfolding write_said
     write_crowded k = write_refused ShortOutput refl (rw (sym e ∙ h, ← w, sym m ∙ k) refl)
 
     -- body and trailer stand in the room
-    pub write_done : n ≡ false → {mid new : List ℕ} → mid ≡ sets out 0 (body (named c t)) → new ≡ sets mid (4 * words) (spread 4 (trailer_words c)) → WriteAnswer c t out (Stored.Written (4 * words + 32)) new
+    pub write_done : n ≡ false → {mid new : List ℕ} → mid ≡ sets out 0 (body (named c t)) → new ≡ sets mid (4 * words) (spread 4 (trailer_words c)) → WriteAnswer c t out (Ok (4 * words + 32)) new
     unfolding write_said
     write_done k {mid} {new} q r =
         let file : new ≡ sets out 0 (stored c t) = runs out (body (named c t)) (spread 4 (trailer_words c)) (4 * words) q r (body_bytes c t (long c t (sym e ∙ h)) ∙ ap (λ (x : ℕ). 4 * x) (sym w)) in
@@ -146,10 +145,10 @@ module _ (file : List ℕ) where
       }
 
   module _ (rooms : Tables) where
-    read_refused : (r : Refusal) → eqb (said_of r).number 0 ≡ false → read_said file rooms ≡ said_of r → ReadAnswer file rooms (ReadStored.Refused r) rooms
+    read_refused : (r : Refusal) → eqb (said_of r).number 0 ≡ false → read_said file rooms ≡ said_of r → ReadAnswer file rooms (Err r) rooms
     read_refused r z e = record { said = sym e; wrote = rw (e, z) refl }
 
-    pub read_misframed : {b : Bool} → b ≡ bad_framing file → b ≡ true → ReadAnswer file rooms (ReadStored.Refused BadFraming) rooms
+    pub read_misframed : {b : Bool} → b ≡ bad_framing file → b ≡ true → ReadAnswer file rooms (Err BadFraming) rooms
     unfolding read_said
     read_misframed e h = read_refused BadFraming refl (rw (sym e ∙ h) refl)
 
@@ -160,7 +159,7 @@ module _ (file : List ℕ) where
       pub rooms_long : Long (counts_in file) rooms
       pub tables_stand : new ≡ put (tables_in (counts_in file) file) rooms
 
-    pub read_ok : {c : BlobCounts} {new : Tables} → ReadAnswer file rooms (ReadStored.Read c) new → Had c new
+    pub read_ok : {c : BlobCounts} {new : Tables} → ReadAnswer file rooms (Ok c) new → Had c new
     unfolding read_said
     read_ok {c} {new} a =
         by_test (bad_framing file) (Had c new)
@@ -180,15 +179,11 @@ module _ (file : List ℕ) where
       room_test : short_tables (counts_in file) rooms ≡ s
       room_test = ap (λ x. short_tables x rooms) (sym w) ∙ sym m
 
-      pub read_short : s ≡ true → ReadAnswer file rooms (ReadStored.Refused ShortOutput) rooms
+      pub read_short : s ≡ true → ReadAnswer file rooms (Err ShortOutput) rooms
       unfolding read_said
       read_short k = read_refused ShortOutput refl (rw (sym e ∙ h, room_test ∙ k) refl)
 
-      -- what the tables' copy asks
-      pub read_ready : s ≡ false → Long c rooms × (4 * distance c ≤ length file)
-      read_ready k = (long c rooms (sym m ∙ k), rw w (let f = (framed (sym e ∙ h)).whole in omega arith))
-
-      pub read_done : s ≡ false → {new : Tables} → new ≡ put (tables_in c file) rooms → ReadAnswer file rooms (ReadStored.Read c) new
+      pub read_done : s ≡ false → {new : Tables} → new ≡ put (tables_in c file) rooms → ReadAnswer file rooms (Ok c) new
       unfolding read_said
       read_done k q =
           record { said = rw (sym e ∙ h, room_test ∙ k) (rw w refl); wrote = rw (sym e ∙ h, room_test ∙ k) (q ∙ ap (λ x. put (tables_in x file) rooms) w) }

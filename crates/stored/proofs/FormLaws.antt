@@ -1,6 +1,8 @@
 -- Laws of the four tables written and read one after another.
 -- Assumes nothing.
-use Rattle.stored_parts.proofs.WordLaws.{spread_long, drop_none}
+use Rattle.stored_parts.proofs.WordLaws.{spread_long, words_long, sets_long}
+use Rattle.stored.proofs.PartLaws.{front_put, tail, with_tail, tail_put}
+use Rattle.std.proofs.lemmas.List.{take-map}
 use mathlib.Core.List.{List, ◌++◌}
 use mathlib.Core.Path.{◌≡◌, sym, ap, ◌∙◌}
 use Prim.Native.Nat.{ℕ, ◌+◌, ◌*◌, ◌%◌, ◌≤◌}
@@ -10,7 +12,7 @@ use lib.Seq.{sets, length-sets, length-take-le}
 use Rattle.laws.proofs.Parts.{sets_append}
 use Rattle.field.specs.Base.{p}
 use Rattle.blob_rules.specs.declared.blob.BlobCounts.{BlobCounts}
-use Rattle.stored_parts.specs.Form.{Tables, spread, words, below_p, distance, named, body, tables_in}
+use Rattle.stored_parts.specs.Form.{Tables, spread, words, below_p, distance, named, body}
 use Rattle.stored_parts.specs.Rooms.{Long}
 use Rattle.stored.specs.Answer.{put}
 
@@ -64,14 +66,34 @@ module _ (c : BlobCounts) (t : Tables) (l : Long c t) where
       let three = runs out (nodes ++ bases) exts (4 * (4 * c.nodes) + 8 * c.bases) two e₃ two_bytes in
       runs out (nodes ++ bases ++ exts) roots (4 * (4 * c.nodes) + 8 * c.bases + 8 * (3 * c.exts)) three e₄ three_bytes
 
--- the tables read
-pub tables_put : (c : BlobCounts) (file : List ℕ) (rooms : Tables) {n b x r : List ℕ}
-    → n ≡ sets rooms.nodes 0 (words 4 (4 * c.nodes) (drop 0 file)) → b ≡ sets rooms.bases 0 (tables_in c file).bases
-    → x ≡ sets rooms.exts 0 (tables_in c file).exts → r ≡ sets rooms.roots 0 (tables_in c file).roots
-    → record { nodes = n; bases = b; exts = x; roots = r } ≡ put (tables_in c file) rooms
-tables_put c file rooms e f g h =
-    let e' = e ∙ ap (λ (l : List ℕ). sets rooms.nodes 0 (words 4 (4 * c.nodes) l)) (drop_none file) in
-    rw (e', f, g, h)
+  -- each into the tail that those before it leave
+  pub body_put : (out : List ℕ) {o₁ n₂ n₃ n₄ : List ℕ} → 4 * distance c ≤ length out
+      → o₁ ≡ sets out 0 nodes
+      → n₂ ≡ sets (tail o₁ (4 * (4 * c.nodes))) 0 (spread 8 (below_p (take c.bases t.bases)))
+      → n₃ ≡ sets (tail (with_tail o₁ (4 * (4 * c.nodes)) n₂) (4 * (4 * c.nodes) + 8 * c.bases)) 0 (spread 8 (below_p (take (3 * c.exts) t.exts)))
+      → n₄ ≡ sets (tail (with_tail (with_tail o₁ (4 * (4 * c.nodes)) n₂) (4 * (4 * c.nodes) + 8 * c.bases) n₃) (4 * (4 * c.nodes) + 8 * c.bases + 8 * (3 * c.exts))) 0 roots
+      → with_tail (with_tail (with_tail o₁ (4 * (4 * c.nodes)) n₂) (4 * (4 * c.nodes) + 8 * c.bases) n₃) (4 * (4 * c.nodes) + 8 * c.bases + 8 * (3 * c.exts)) n₄ ≡ sets out 0 (body (named c t))
+  body_put out {o₁} {n₂} {n₃} {n₄} fits e₁ e₂ e₃ e₄ =
+      let k₁ = 4 * (4 * c.nodes) in
+      let k₂ = 4 * (4 * c.nodes) + 8 * c.bases in
+      let k₃ = 4 * (4 * c.nodes) + 8 * c.bases + 8 * (3 * c.exts) in
+      let l₁ = sets_long out 0 nodes e₁ in
+      let s₂ = tail_put o₁ {new = n₂} k₁ bases (omega (arith, l₁)) (e₂ ∙ ap (λ (x : List ℕ). sets (tail o₁ k₁) 0 (spread 8 x)) (sym (take-map (λ w. w % p) c.bases t.bases))) in
+      let o₂ = with_tail o₁ k₁ n₂ in
+      let l₂ = sets_long o₁ k₁ bases s₂ in
+      let s₃ = tail_put o₂ {new = n₃} k₂ exts (omega (arith, l₁, l₂)) (e₃ ∙ ap (λ (x : List ℕ). sets (tail o₂ k₂) 0 (spread 8 x)) (sym (take-map (λ w. w % p) (3 * c.exts) t.exts))) in
+      let o₃ = with_tail o₂ k₂ n₃ in
+      let l₃ = sets_long o₂ k₂ exts s₃ in
+      body_set out e₁ s₂ s₃ (tail_put o₃ {new = n₄} k₃ roots (omega (arith, l₁, l₂, l₃)) e₄)
+
+-- as many words as the front of a room takes
+pub words_put : (n k : ℕ) (room bytes : List ℕ) {new : List ℕ} → k ≤ length room → new ≡ words n (length (take k room)) bytes → new ++ drop k room ≡ sets room 0 (words n k bytes)
+words_put n k room bytes h e =
+    front_put room k (words n k bytes) (words_long n k bytes) h (e ∙ ap (λ (m : ℕ). words n m bytes) (length-take-le k room h))
+
+pub constants_put : (n k : ℕ) (room bytes : List ℕ) {new : List ℕ} → k ≤ length room → new ≡ below_p (words n (length (take k room)) bytes) → new ++ drop k room ≡ sets room 0 (below_p (words n k bytes))
+constants_put n k room bytes h e =
+    front_put room k (below_p (words n k bytes)) (length-map (words n k bytes) (λ w. w % p) ∙ words_long n k bytes) h (e ∙ ap (λ (m : ℕ). below_p (words n m bytes)) (length-take-le k room h))
 
 -- and the rooms stay as long
 pub put_long : (c : BlobCounts) (t rooms : Tables) → Long c rooms → Long c (put t rooms)

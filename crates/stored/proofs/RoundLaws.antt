@@ -9,10 +9,10 @@ use lib.ListN.{length, get_or, take, drop, length-append, length-drop, length-ma
 use lib.Seq.{sets, take_at, drop_at, take-add, drop-drop, drop-append-add, length-take-le, get_or-take, get_or-drop}
 use Rattle.laws.proofs.Parts.{sets_here}
 use Rattle.little_endian.specs.Bytes.{le_value, le_bytes}
-use Rattle.little_endian.proofs.BytesLaws.{value_bytes, bytes_value}
+use Rattle.little_endian.proofs.BytesLaws.{value_bytes, bytes_value, bytes_long}
 use Rattle.field.specs.Base.{p}
 use Rattle.stored_parts.specs.Form.{spread, words, below_p, trailer_word}
-use Rattle.stored_parts.proofs.WordLaws.{bytes_long, drop_none, below_at}
+use Rattle.stored_parts.proofs.WordLaws.{drop_none, below_at}
 
 -- each word is below m
 pub record Below (m : ℕ) (ws : List ℕ) : Type 0 where

@@ -1,5 +1,7 @@
 -- A blob that is written and read is the same blob; a file that is read and written is the same file.
 -- Assumes nothing.
+use Rattle.std.specs.Prelude.{Result, Ok}
+use Rattle.ir.specs.declared.refusal.Refusal.{Refusal}
 use mathlib.Core.Bool.{false}
 use mathlib.Core.List.{List, [], ◌∷◌, ◌++◌}
 use mathlib.Core.Path.{◌≡◌, refl, sym, ap, ◌∙◌}
@@ -11,8 +13,6 @@ use Rattle.little_endian.specs.Bytes.{le_value}
 use Rattle.little_endian.proofs.BytesLaws.{value_bytes}
 use Rattle.field.specs.Base.{p}
 use Rattle.blob_rules.specs.declared.blob.BlobCounts.{BlobCounts}
-use Rattle.stored.specs.declared.write.Stored.{Stored}
-use Rattle.stored.specs.declared.read.ReadStored.{ReadStored}
 use Rattle.stored_parts.specs.Form.{Tables, spread, words, below_p, distance, size, named, body, trailer_words, stored, trailer_word, counts_in, bad_framing, tables_in}
 use Rattle.stored_parts.specs.Rooms.{Long}
 use Rattle.stored.specs.Answer.{WriteAnswer, put, ReadAnswer}
@@ -185,10 +185,10 @@ module _ (file : List ℕ) (bytes : Below 256 file) (f : Framed file) where
 -- ---- the calls
 
 -- what `write_stored` wrote, `read_stored` reads: the counts, and the named words, constants below p
-pub write_then_read : {c : BlobCounts} {t rooms rooms' : Tables} {out out' : List ℕ} {bytes : ℕ} {answer : ReadStored}
+pub write_then_read : {c : BlobCounts} {t rooms rooms' : Tables} {out out' : List ℕ} {bytes : ℕ} {answer : Result BlobCounts Refusal}
     → Counted c → Below 4294967296 t.nodes → Below 4294967296 t.roots
-    → WriteAnswer c t out (Stored.Written bytes) out' → Long c rooms → ReadAnswer (take bytes out') rooms answer rooms'
-    → (answer ≡ ReadStored.Read c) × (rooms' ≡ put (named c t) rooms)
+    → WriteAnswer c t out (Ok bytes) out' → Long c rooms → ReadAnswer (take bytes out') rooms answer rooms'
+    → (answer ≡ Ok c) × (rooms' ≡ put (named c t) rooms)
 write_then_read {c} {t} {rooms} {rooms'} {out} {out'} {bytes} {answer} counted n r w long a =
     let ok = wrote_ok c t out w in
     let short : distance c < 4294967296 = let h = ok.room_long.0 in omega arith in
@@ -197,16 +197,16 @@ write_then_read {c} {t} {rooms} {rooms'} {out} {out'} {bytes} {answer} counted n
     let file : take bytes out' ≡ stored c t =
     ap (take bytes) ok.file_stands ∙ front out (stored c t) bytes (sized ∙ sym ok.bytes_are) (rw ok.bytes_are ok.room_long.1) in
     let same = counts_back c t counted short l n r in
-    let read : ReadAnswer (stored c t) rooms (ReadStored.Read c) (put (tables_in c (stored c t)) rooms) =
+    let read : ReadAnswer (stored c t) rooms (Ok c) (put (tables_in c (stored c t)) rooms) =
     read_done (stored c t) rooms (sym (framing_back c t counted short l n r)) refl (sym same) (sym (not_short c rooms long)) refl refl in
     let one = read_stored_single (rw file at a) read in
     (one.0, one.1 ∙ ap (λ (x : Tables). put x rooms) (tables_back c t counted short l n r))
 
 -- what `read_stored` read, `write_stored` writes: the same file, where its constants are below p
-pub read_then_write : {file : List ℕ} {c : BlobCounts} {rooms rooms' : Tables} {out out' : List ℕ} {answer : Stored}
+pub read_then_write : {file : List ℕ} {c : BlobCounts} {rooms rooms' : Tables} {out out' : List ℕ} {answer : Result ℕ Refusal}
     → Below 256 file → ConstantsBelow c file
-    → ReadAnswer file rooms (ReadStored.Read c) rooms' → length file ≤ length out → WriteAnswer c rooms' out answer out'
-    → (answer ≡ Stored.Written (length file)) × (out' ≡ sets out 0 file)
+    → ReadAnswer file rooms (Ok c) rooms' → length file ≤ length out → WriteAnswer c rooms' out answer out'
+    → (answer ≡ Ok (length file)) × (out' ≡ sets out 0 file)
 read_then_write {file} {c} {rooms} {rooms'} {out} {out'} {answer} bytes below r room w =
     let had = read_ok file rooms r in
     let k = counts_in file in
@@ -220,4 +220,4 @@ read_then_write {file} {c} {rooms} {rooms'} {out} {out'} {answer} bytes below r 
     let same =
     ap (λ (x : Tables). body x ++ spread 4 (trailer_words k)) (named_back k file rooms had.rooms_long)
     ∙ file_back file bytes f (rw had.counts_are at below) in
-    (one.0 ∙ ap Stored.Written (sym f.whole), one.1 ∙ ap (sets out 0) same)
+    (one.0 ∙ ap Ok (sym f.whole), one.1 ∙ ap (sets out 0) same)

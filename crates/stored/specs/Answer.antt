@@ -1,13 +1,22 @@
 -- What writing and reading form A say, and what they write.
 -- Assumes nothing.
+use Rattle.ir.specs.declared.refusal.Refusal.{Refusal}
 use Rattle.stored_parts.specs.Rooms.{short_tables, no_room}
-use Rattle.std.specs.Prelude.{cond, List, [], ◌∷◌, ◌≡◌, ℕ, eqb, length}
+use Rattle.std.specs.Prelude.{cond, List, [], ◌∷◌, ◌≡◌, ℕ, eqb, length, Result, Ok, Err}
 use Rattle.std.proofs.lemmas.List.Edits.{sets}
 use Rattle.ir.specs.Refusals.{Said, Row, row, first, gives, said_of}
 use Rattle.blob_rules.specs.declared.blob.BlobCounts.{BlobCounts}
-use Rattle.stored.specs.declared.write.Stored.{Stored}
-use Rattle.stored.specs.declared.read.ReadStored.{ReadStored}
+use Rattle.blob_rules.specs.declared.blob.TableRooms.{TableRooms}
+use Rattle.stored.specs.declared.write.TablesRef.{TablesRef}
 use Rattle.stored_parts.specs.Form.{Tables, distance, size, stored, counts_in, bad_framing, tables_in}
+
+-- the tables that are lent for writing
+abbrev pub lent_tables : TablesRef → Tables
+lent_tables t = record { nodes = t.nodes.now; bases = t.bases.now; exts = t.exts.now; roots = t.roots.now }
+
+-- what the rooms hold that are lent for reading
+abbrev pub rooms_of : TableRooms → Tables
+rooms_of r = record { nodes = r.nodes.now; bases = r.bases.now; exts = r.exts.now; roots = r.roots.now }
 
 -- ---- writing
 
@@ -20,12 +29,12 @@ unfoldable pub write_said : BlobCounts → Tables → List ℕ → Said
 write_said c t out = first (write_rows c t out) (gives (size c ∷ []))
 
 -- the same of an answer
-abbrev pub said_of_stored : Stored → Said
-said_of_stored (Stored.Written bytes) = gives (bytes ∷ [])
-said_of_stored (Stored.Refused r) = said_of r
+abbrev pub said_of_stored : Result ℕ Refusal → Said
+said_of_stored (Ok bytes) = gives (bytes ∷ [])
+said_of_stored (Err r) = said_of r
 
 -- the promise: what is said; on 0 the file stands at the front of the room, else nothing is written
-pub record WriteAnswer (c : BlobCounts) (t : Tables) (out : List ℕ) (answer : Stored) (out' : List ℕ) : Type 0 where
+pub record WriteAnswer (c : BlobCounts) (t : Tables) (out : List ℕ) (answer : Result ℕ Refusal) (out' : List ℕ) : Type 0 where
   pub said : said_of_stored answer ≡ write_said c t out
   pub wrote : out' ≡ cond (eqb (write_said c t out).number 0) (sets out 0 (stored c t)) out
 
@@ -45,9 +54,9 @@ unfoldable pub read_said : List ℕ → Tables → Said
 read_said file rooms = first (read_rows file rooms) (gives (counts_of (counts_in file)))
 
 -- the same of an answer
-abbrev pub said_of_read : ReadStored → Said
-said_of_read (ReadStored.Read c) = gives (counts_of c)
-said_of_read (ReadStored.Refused r) = said_of r
+abbrev pub said_of_read : Result BlobCounts Refusal → Said
+said_of_read (Ok c) = gives (counts_of c)
+said_of_read (Err r) = said_of r
 
 -- tables at the front of the rooms
 abbrev pub put : Tables → Tables → Tables
@@ -60,6 +69,6 @@ put t rooms =
     }
 
 -- the promise: what is said; on 0 the file's tables stand at the front of the rooms, else nothing is written
-pub record ReadAnswer (file : List ℕ) (rooms : Tables) (answer : ReadStored) (rooms' : Tables) : Type 0 where
+pub record ReadAnswer (file : List ℕ) (rooms : Tables) (answer : Result BlobCounts Refusal) (rooms' : Tables) : Type 0 where
   pub said : said_of_read answer ≡ read_said file rooms
   pub wrote : rooms' ≡ cond (eqb (read_said file rooms).number 0) (put (tables_in (counts_in file) file) rooms) rooms

@@ -1,57 +1,67 @@
 // Reading stored form A: its framing is judged, and nothing else.
 ghost use Rattle.std.specs.Prelude.{◌≡◌, ◌*◌, ◌≤◌, length};
-ghost use Rattle.stored_parts.specs.Form.{distance, tables_in};
+ghost use Rattle.std.proofs.lemmas.List.Edits.{sets};
+ghost use Rattle.stored_parts.specs.Form.{words, below_p, distance, tables_in};
 ghost use Rattle.stored_parts.specs.Rooms.{Long};
-ghost use Rattle.stored.specs.Answer.{put, ReadAnswer};
+ghost use Rattle.blob_rules.specs.Blob.{SameRooms};
+ghost use Rattle.stored.specs.Answer.{rooms_of, put, ReadAnswer};
 
-use blob_rules::blob::BlobCounts;
+use blob_rules::blob::{BlobCounts, TableRooms};
 use ir::refusal::Refusal;
 use stored_parts::form::short_tables;
 use stored_parts::reading::{bad_framing, counts_in, read_constants, read_words};
 
-// The blob's counts, with its words at the front of the caller's rooms, or why there are none.
-#[derive(Clone, Copy)]
-pub enum ReadStored {
-    Read(BlobCounts),
-    Refused(Refusal),
+// So many words, at the front of their room: of a part of a lent room that a value holds, nothing is known afterwards.
+fn read_front(bytes: &[u8], count: usize, room: &mut [u32])
+    requires { (count ≤ length room.old) × (4 * count ≤ length bytes.now) }
+    ensures { room.new ≡ sets room.old 0 (words 4 count bytes.now) }
+{
+    read_words(bytes, &mut room[..count]);
 }
 
-fn read_tables(
-    file: &[u8],
-    c: BlobCounts,
-    nodes: &mut [u32],
-    bases: &mut [u64],
-    exts: &mut [u64],
-    roots: &mut [u32],
-)
-    requires { Long c (record { nodes = nodes.old; bases = bases.old; exts = exts.old; roots = roots.old }) × (4 * distance c ≤ length file.now) }
-    ensures { record { nodes = nodes.new; bases = bases.new; exts = exts.new; roots = roots.new } ≡ put (tables_in c file.now) (record { nodes = nodes.old; bases = bases.old; exts = exts.old; roots = roots.old }) }
+// And so many constants.
+fn read_constant_front(bytes: &[u8], count: usize, room: &mut [u64])
+    requires { (count ≤ length room.old) × (8 * count ≤ length bytes.now) }
+    ensures { room.new ≡ sets room.old 0 (below_p (words 8 count bytes.now)) }
+{
+    read_constants(bytes, &mut room[..count]);
+}
+
+fn read_tables(file: &[u8], c: BlobCounts, rooms: &mut TableRooms)
+    requires { Long c (rooms_of rooms.old) × (4 * distance c ≤ length file.now) }
+    ensures tables_read { rooms_of rooms.new ≡ put (tables_in c file.now) (rooms_of rooms.old) }
+    ensures same_rooms { SameRooms rooms.new rooms.old }
 {
     let n = c.nodes as usize;
     let b = c.bases as usize;
     let x = c.exts as usize;
-    read_words(file, 0, 4 * n, nodes);
-    read_constants(file, 16 * n, b, bases);
-    read_constants(file, 16 * n + 8 * b, 3 * x, exts);
-    read_words(file, 16 * n + 8 * b + 24 * x, c.roots as usize, roots);
+    read_front(file, 4 * n, rooms.nodes);
+    read_constant_front(&file[16 * n..], b, rooms.bases);
+    read_constant_front(&file[16 * n + 8 * b..], 3 * x, rooms.exts);
+    read_front(
+        &file[16 * n + 8 * b + 24 * x..],
+        c.roots as usize,
+        rooms.roots,
+    );
 }
 
-pub fn read_stored(
-    file: &[u8],
-    nodes: &mut [u32],
-    bases: &mut [u64],
-    exts: &mut [u64],
-    roots: &mut [u32],
-) -> ReadStored
-    ensures { ReadAnswer file.now (record { nodes = nodes.old; bases = bases.old; exts = exts.old; roots = roots.old }) result (record { nodes = nodes.new; bases = bases.new; exts = exts.new; roots = roots.new }) }
+pub fn read_stored(file: &[u8], rooms: &mut TableRooms) -> Result<BlobCounts, Refusal>
+    ensures answer { ReadAnswer file.now (rooms_of rooms.old) result (rooms_of rooms.new) }
+    ensures same_rooms { SameRooms rooms.new rooms.old }
 {
     if bad_framing(file) {
-        return ReadStored::Refused(Refusal::BadFraming);
+        return Err(Refusal::BadFraming);
     }
     let c = counts_in(file);
-    if short_tables(c, nodes.len(), bases.len(), exts.len(), roots.len()) {
-        return ReadStored::Refused(Refusal::ShortOutput);
+    if short_tables(
+        c,
+        rooms.nodes.len(),
+        rooms.bases.len(),
+        rooms.exts.len(),
+        rooms.roots.len(),
+    ) {
+        return Err(Refusal::ShortOutput);
     }
-    read_tables(file, c, nodes, bases, exts, roots);
-    ReadStored::Read(c)
+    read_tables(file, c, rooms);
+    Ok(c)
 }

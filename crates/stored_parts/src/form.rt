@@ -18,33 +18,21 @@ pub fn body_words(c: BlobCounts) -> usize
 pub fn short_tables(c: BlobCounts, nodes: usize, bases: usize, exts: usize, roots: usize) -> bool
     ensures { result ≡ short c nodes bases exts roots }
 {
-    if nodes < 4 * (c.nodes as usize) {
-        return true;
-    }
-    if bases < c.bases as usize {
-        return true;
-    }
-    if exts < 3 * (c.exts as usize) {
-        return true;
-    }
-    roots < c.roots as usize
+    nodes < 4 * (c.nodes as usize)
+        || bases < c.bases as usize
+        || exts < 3 * (c.exts as usize)
+        || roots < c.roots as usize
 }
 
 // The length is judged once the distance is known to be the body's, and so to fit 32 bits.
 pub fn is_misframed(words: usize, told: u32, len: usize) -> bool
     ensures { result ≡ misframed words told len }
 {
-    if told as usize != words {
-        return true;
-    }
-    len != 4 * words + TRAILER_BYTES
+    told as usize != words || len != 4 * words + TRAILER_BYTES
 }
 
 pub fn no_room(words: usize, room: usize) -> bool
     ensures { result ≡ no_room words room }
 {
-    if 4294967295 < words {
-        return true;
-    }
-    room < 4 * words + TRAILER_BYTES
+    words > u32::MAX as usize || room < 4 * words + TRAILER_BYTES
 }

@@ -1,35 +1,30 @@
 // Words, constants and the trailer of a file.
-ghost use Rattle.std.specs.Prelude.{◌≡◌, ◌+◌, ◌*◌, ◌<◌, ◌≤◌, length, drop};
-ghost use Rattle.std.proofs.lemmas.List.Edits.{sets};
+ghost use Rattle.std.specs.Prelude.{◌≡◌, ◌*◌, ◌<◌, ◌≤◌, length};
 ghost use Rattle.stored_parts.specs.Form.{words, below_p, trailer_word, counts_in, bad_framing};
 
 use super::form::{TRAILER_BYTES, body_words, is_misframed};
 use blob_rules::blob::BlobCounts;
 use field::goldilocks::Fp;
-use little_endian::bytes::{u32_at, u64_at};
+use little_endian::bytes::Word;
 
-pub fn read_words(file: &[u8], at: usize, count: usize, to: &mut [u32])
-    requires { (at + 4 * count ≤ length file.now) × (count ≤ length to.old) }
-    ensures { to.new ≡ sets to.old 0 (words 4 count (drop at file.now)) }
+// As many words as the room takes.
+pub fn read_words<W: Word>(bytes: &[u8], to: &mut [W])
+    requires { W.BYTES * length to.old ≤ length bytes.now }
+    ensures { W.numbers to.new ≡ words W.BYTES (length to.old) bytes.now }
 {
-    let mut i: usize = 0;
-    while i < count {
-        to[i] = u32_at(file, at + 4 * i);
-        i += 1;
+    for i in 0..to.len() {
+        to[i] = W::read_at(bytes, W::BYTES * i);
     }
 }
 
-// Constants are put below p.
-pub fn read_constants(file: &[u8], at: usize, count: usize, to: &mut [u64])
-    requires { (at + 8 * count ≤ length file.now) × (count ≤ length to.old) }
-    ensures { to.new ≡ sets to.old 0 (below_p (words 8 count (drop at file.now))) }
+// As many constants as the room takes, put below p. One function for these and for words would take what is done to each as a
+// closure, and its law, which is longer than both.
+pub fn read_constants(bytes: &[u8], to: &mut [u64])
+    requires { 8 * length to.old ≤ length bytes.now }
+    ensures { to.new ≡ below_p (words 8 (length to.old) bytes.now) }
 {
-    let mut i: usize = 0;
-    while i < count {
-        let word = u64_at(file, at + 8 * i);
-        let least = Fp::reduce(word);
-        to[i] = least;
-        i += 1;
+    for i in 0..to.len() {
+        to[i] = Fp::reduce(u64::read_at(bytes, 8 * i));
     }
 }
 
@@ -37,7 +32,7 @@ fn trailer_word(file: &[u8], k: usize) -> u32
     requires { (32 ≤ length file.now) × (k < 8) }
     ensures { result ≡ trailer_word file.now k }
 {
-    u32_at(file, file.len() - TRAILER_BYTES + 4 * k)
+    u32::read_at(file, file.len() - TRAILER_BYTES + 4 * k)
 }
 
 pub fn counts_in(file: &[u8]) -> BlobCounts
@@ -58,12 +53,10 @@ pub fn counts_in(file: &[u8]) -> BlobCounts
 pub fn bad_framing(file: &[u8]) -> bool
     ensures { result ≡ bad_framing file.now }
 {
-    if file.len() < TRAILER_BYTES {
-        return true;
-    }
-    is_misframed(
-        body_words(counts_in(file)),
-        trailer_word(file, 7),
-        file.len(),
-    )
+    file.len() < TRAILER_BYTES
+        || is_misframed(
+            body_words(counts_in(file)),
+            trailer_word(file, 7),
+            file.len(),
+        )
 }

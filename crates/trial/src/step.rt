@@ -1,10 +1,12 @@
 // A trial's step: one node, tested and evaluated at once. The trial's room was cleared first, its words are below P, and the
-// frame is the prover's, where a value's class is its node's dim; each of the three saves time.
+// frame is the prover's, where a value's class is its node's dim; each of the three saves time. A step takes of the node the
+// words that it tests, and no others. Tests are one where nothing is read or computed between them. The two kinds of cell differ in
+// the constant, the limit, the table and what is stored.
 ghost use Rattle.std.specs.Prelude.{true, false, ◌≡◌, ℕ, ◌+◌, ◌*◌, ◌<◌, ◌≤◌, length, get_or};
 ghost use Rattle.extension.specs.Tower.{goldilocks};
 ghost use Rattle.ir.specs.Words.{main_of, offset_of};
 ghost use Rattle.values.specs.Values.{leaf_value, base, ext};
-ghost use Rattle.values.specs.Frame.{lent, leaves, word, triple, Fits};
+ghost use Rattle.values.specs.Frame.{lent_in, leaves, word, triple, Fits};
 ghost use Rattle.trial_parts.specs.Trial.{Narrow, LeafFits, Tryable, Tried};
 ghost use Rattle.trial_parts.specs.Step.{Clear, LowRoom, Standing, entry_of, Put, Operated, Stepped};
 
@@ -12,8 +14,8 @@ use extension::extensions_goldilocks::Ext;
 use field::goldilocks::Fp;
 use ir::node::{DIM_BASE, DIM_EXT, OP_ADD, OP_CONST_BASE, OP_EMBED, OP_NEG, OP_VAR};
 use ir::program::Counts;
-use trial_parts::parts::{all_base, both, entry, ext_binary, leaf_limit, put_base, put_ext};
-use values::frame::{Limits, Strides};
+use trial_parts::parts::{all_base, entry, ext_binary, leaf_limit, put_base, put_ext};
+use values::frame::{Inputs, Limits, Strides};
 use values::value::{BASE, base_operation, ext_leaf};
 
 // A cell of the main trace.
@@ -31,21 +33,12 @@ fn step_main(
     ensures { result ≡ true → LeafFits c m (record { tag = 2; x = x; y = y; dim = 0 }) × (main_of y ≡ true) × Put (base (word main.now (offset_of y * stride + x))) 0 i room.old room.new }
 {
     let step = (y / 256 % 256) as usize;
-    if m.steps <= step {
-        return false;
-    }
-    if y % 256 != 0 {
-        return false;
-    }
-    if y / 65536 != 1 {
-        return false;
-    }
     let col = x as usize;
-    if m.main <= col {
+    if m.steps <= step || y % 256 != 0 || y / 65536 != 1 || m.main <= col {
         return false;
     }
     let v = Fp::reduce(main[step * stride + col]);
-    put_base(&mut room[..], i, v);
+    put_base(room, i, v);
     true
 }
 
@@ -64,22 +57,13 @@ fn step_aux(
     ensures { result ≡ true → LeafFits c m (record { tag = 2; x = x; y = y; dim = 1 }) × (main_of y ≡ false) × Put (ext (triple aux.now (offset_of y * stride + x))) 1 i room.old room.new }
 {
     let step = (y / 256 % 256) as usize;
-    if m.steps <= step {
-        return false;
-    }
-    if y % 256 != 0 {
-        return false;
-    }
-    if y / 65536 != 0 {
-        return false;
-    }
     let col = x as usize;
-    if m.aux <= col {
+    if m.steps <= step || y % 256 != 0 || y / 65536 != 0 || m.aux <= col {
         return false;
     }
     let v = ext_leaf(aux, step * stride + col);
     let limbs = v.limbs;
-    put_ext(&mut room[..], i, limbs);
+    put_ext(room, i, limbs);
     true
 }
 
@@ -96,18 +80,12 @@ fn step_const(
     requires { Narrow m × (c.bases ≤ length bases.now) × Clear room.old i }
     ensures { result ≡ true → LeafFits c m (record { tag = 0; x = x; y = y; dim = dim }) × Put (base (word bases.now x)) dim i room.old room.new }
 {
-    if y != 0 {
-        return false;
-    }
-    if dim != DIM_BASE {
-        return false;
-    }
     let place = x as usize;
-    if c.bases <= place {
+    if y != 0 || dim != DIM_BASE || c.bases <= place {
         return false;
     }
     let v = Fp::reduce(bases[place]);
-    put_base(&mut room[..], i, v);
+    put_base(room, i, v);
     true
 }
 
@@ -115,33 +93,24 @@ fn step_const(
 fn step_entry(
     c: Counts,
     m: Limits,
-    offset: Ext,
     i: usize,
     tag: u32,
     x: u32,
     y: u32,
     dim: u32,
-    exts: &[u64],
-    challenges: &[u64],
-    alphas: &[u64],
+    inputs: &Inputs,
     room: &mut [u64],
 ) -> bool
-    requires { Narrow m × (3 * c.exts ≤ length exts.now) × (3 * m.challenges ≤ length challenges.now) × (3 * m.alphas ≤ length alphas.now) × (4 * i + 4 ≤ length room.old) × (tag ≡ 0 → ⊥) × (tag ≡ 2 → ⊥) }
-    ensures { result ≡ true → LeafFits c m (record { tag = tag; x = x; y = y; dim = dim }) × Put (ext (entry_of tag x exts.now challenges.now alphas.now offset.limbs)) dim i room.old room.new }
+    requires { let l = lent_in inputs.now in Narrow m × (3 * c.exts ≤ length l.exts) × (3 * m.challenges ≤ length l.challenges) × (3 * m.alphas ≤ length l.alphas) × (4 * i + 4 ≤ length room.old) × (tag ≡ 0 → ⊥) × (tag ≡ 2 → ⊥) }
+    ensures { let l = lent_in inputs.now in result ≡ true → LeafFits c m (record { tag = tag; x = x; y = y; dim = dim }) × Put (ext (entry_of tag x l.exts l.challenges l.alphas l.offset)) dim i room.old room.new }
 {
-    if y != 0 {
-        return false;
-    }
-    if dim != DIM_EXT {
-        return false;
-    }
     let place = x as usize;
-    if leaf_limit(c, m, tag) <= place {
+    if y != 0 || dim != DIM_EXT || leaf_limit(c, m, tag) <= place {
         return false;
     }
-    let v = entry(tag, place, offset, exts, challenges, alphas);
+    let v = entry(tag, place, inputs);
     let limbs = v.limbs;
-    put_ext(&mut room[..], i, limbs);
+    put_ext(room, i, limbs);
     true
 }
 
@@ -149,49 +118,30 @@ fn step_leaf(
     c: Counts,
     m: Limits,
     s: Strides,
-    offset: Ext,
     i: usize,
     tag: u32,
     x: u32,
     y: u32,
     dim: u32,
-    bases: &[u64],
-    exts: &[u64],
-    main: &[u64],
-    aux: &[u64],
-    challenges: &[u64],
-    alphas: &[u64],
+    inputs: &Inputs,
     room: &mut [u64],
 ) -> bool
-    requires { Fits s m c (lent bases.now exts.now main.now aux.now challenges.now alphas.now offset.limbs) × (s.wide ≡ false) × Narrow m × Clear room.old i }
-    ensures { result ≡ true → LeafFits c m (record { tag = tag; x = x; y = y; dim = dim }) × Put (leaf_value goldilocks (leaves s (lent bases.now exts.now main.now aux.now challenges.now alphas.now offset.limbs)) tag x y) dim i room.old room.new }
+    requires { Fits s m c (lent_in inputs.now) × (s.wide ≡ false) × Narrow m × Clear room.old i }
+    ensures { result ≡ true → LeafFits c m (record { tag = tag; x = x; y = y; dim = dim }) × Put (leaf_value goldilocks (leaves s (lent_in inputs.now)) tag x y) dim i room.old room.new }
 {
     if tag == OP_VAR {
         if dim == DIM_BASE {
-            return step_main(c, m, s.main, i, x, y, main, &mut room[..]);
+            return step_main(c, m, s.main, i, x, y, inputs.main, room);
         }
         if dim != DIM_EXT {
             return false;
         }
-        return step_aux(c, m, s.aux, i, x, y, aux, &mut room[..]);
+        return step_aux(c, m, s.aux, i, x, y, inputs.aux, room);
     }
     if tag == OP_CONST_BASE {
-        return step_const(c, m, i, x, y, dim, bases, &mut room[..]);
+        return step_const(c, m, i, x, y, dim, inputs.bases, room);
     }
-    step_entry(
-        c,
-        m,
-        offset,
-        i,
-        tag,
-        x,
-        y,
-        dim,
-        exts,
-        challenges,
-        alphas,
-        &mut room[..],
-    )
+    step_entry(c, m, i, tag, x, y, dim, inputs, room)
 }
 
 // Neg keeps its operand's class, Embed is extension.
@@ -209,24 +159,21 @@ fn step_unary(i: usize, tag: u32, x: usize, y: u32, dim: u32, room: &mut [u64]) 
         }
         if dim == DIM_BASE {
             let v = Fp::neg(room[at + 1]);
-            put_base(&mut room[..], i, v);
+            put_base(room, i, v);
             return true;
         }
         if dim != DIM_EXT {
             return false;
         }
-        let v = Ext::load(&room[..], at + 1).neg();
-        put_ext(&mut room[..], i, v);
+        let v = Ext::load(room, at + 1).neg();
+        put_ext(room, i, v);
         return true;
     }
-    if tag != OP_EMBED {
+    if tag != OP_EMBED || dim != DIM_EXT {
         return false;
     }
-    if dim != DIM_EXT {
-        return false;
-    }
-    let v = Ext::load(&room[..], at + 1).reduce();
-    put_ext(&mut room[..], i, v);
+    let v = Ext::load(room, at + 1).reduce();
+    put_ext(room, i, v);
     true
 }
 
@@ -239,23 +186,14 @@ fn step_binary(i: usize, tag: u32, x: usize, y: usize, dim: u32, room: &mut [u64
     let to = 4 * y;
     if all_base(dim as u64, room[at], room[to]) {
         let v = base_operation(tag, room[at + 1], room[to + 1]);
-        put_base(&mut room[..], i, v);
+        put_base(room, i, v);
         return true;
     }
-    if dim != DIM_EXT {
+    if dim != DIM_EXT || (room[at] == BASE && room[to] == BASE) {
         return false;
     }
-    if room[at] == BASE {
-        if room[to] == BASE {
-            return false;
-        }
-    }
-    let v = ext_binary(
-        tag,
-        Ext::load(&room[..], at + 1),
-        Ext::load(&room[..], to + 1),
-    );
-    put_ext(&mut room[..], i, v);
+    let v = ext_binary(tag, Ext::load(room, at + 1), Ext::load(room, to + 1));
+    put_ext(room, i, v);
     true
 }
 
@@ -272,28 +210,22 @@ fn step_operation(i: usize, tag: u32, x: u32, y: u32, dim: u32, room: &mut [u64]
         if i <= second {
             return false;
         }
-        return step_binary(i, tag, first, second, dim, &mut room[..]);
+        return step_binary(i, tag, first, second, dim, room);
     }
-    step_unary(i, tag, first, y, dim, &mut room[..])
+    step_unary(i, tag, first, y, dim, room)
 }
 
 fn step(
     c: Counts,
     m: Limits,
     s: Strides,
-    offset: Ext,
     i: usize,
+    inputs: &Inputs,
     nodes: &[u32],
-    bases: &[u64],
-    exts: &[u64],
-    main: &[u64],
-    aux: &[u64],
-    challenges: &[u64],
-    alphas: &[u64],
     room: &mut [u64],
 ) -> bool
-    requires { Standing s m c (lent bases.now exts.now main.now aux.now challenges.now alphas.now offset.limbs) nodes.now room.old i }
-    ensures { result ≡ true → Stepped s m c (lent bases.now exts.now main.now aux.now challenges.now alphas.now offset.limbs) nodes.now i room.old room.new }
+    requires { Standing s m c (lent_in inputs.now) nodes.now room.old i }
+    ensures { result ≡ true → Stepped s m c (lent_in inputs.now) nodes.now i room.old room.new }
 {
     let at = 4 * i;
     let tag = nodes[at];
@@ -301,26 +233,9 @@ fn step(
     let y = nodes[at + 2];
     let dim = nodes[at + 3];
     if tag < OP_ADD {
-        return step_leaf(
-            c,
-            m,
-            s,
-            offset,
-            i,
-            tag,
-            x,
-            y,
-            dim,
-            bases,
-            exts,
-            main,
-            aux,
-            challenges,
-            alphas,
-            &mut room[..],
-        );
+        return step_leaf(c, m, s, i, tag, x, y, dim, inputs, room);
     }
-    step_operation(i, tag, x, y, dim, &mut room[..])
+    step_operation(i, tag, x, y, dim, room)
 }
 
 // Every node's step in order, until one does not fit.
@@ -328,40 +243,17 @@ pub fn pass(
     c: Counts,
     m: Limits,
     s: Strides,
-    offset: Ext,
+    inputs: &Inputs,
     nodes: &[u32],
-    bases: &[u64],
-    exts: &[u64],
-    main: &[u64],
-    aux: &[u64],
-    challenges: &[u64],
-    alphas: &[u64],
     room: &mut [u64],
 ) -> bool
-    requires { Tryable s m c (lent bases.now exts.now main.now aux.now challenges.now alphas.now offset.limbs) (length nodes.now) (length room.old) × ((k : ℕ) → get_or room.old k 0 ≡ 0) }
-    ensures { result ≡ true → Tried s m c (lent bases.now exts.now main.now aux.now challenges.now alphas.now offset.limbs) nodes.now room.old room.new }
+    requires { Tryable s m c (lent_in inputs.now) (length nodes.now) (length room.old) × ((k : ℕ) → get_or room.old k 0 ≡ 0) }
+    ensures { result ≡ true → Tried s m c (lent_in inputs.now) nodes.now room.old room.new }
 {
-    let n = c.nodes;
-    let mut i: usize = 0;
-    while i < n {
-        if !step(
-            c,
-            m,
-            s,
-            offset,
-            i,
-            nodes,
-            bases,
-            exts,
-            main,
-            aux,
-            challenges,
-            alphas,
-            &mut room[..],
-        ) {
+    for i in 0..c.nodes {
+        if !step(c, m, s, i, inputs, nodes, room) {
             return false;
         }
-        i += 1;
     }
     true
 }

@@ -5,11 +5,10 @@ use mathlib.Core.List.{List, ◌++◌}
 use mathlib.Core.Path.{◌≡◌, refl, sym, ap, subst, ◌∙◌}
 use Prim.Native.Nat.{ℕ, zero, suc, ◌+◌, ◌*◌, ◌/◌, ◌%◌, ◌<◌, ◌≤◌}
 use native.Mathlib.Nat.{zero-add}
-use native.Mathlib.Numerals.{add-one}
 use native.Mathlib.Omega.{arith}
 use lib.Dec.{eqb}
-use lib.ListN.{length, get_or, set, take, drop, replicate, length-drop, take-append-drop}
-use lib.Seq.{paste, paste-suc, length-paste, drop-paste, length-take-le, drop-append-le, take-append-le}
+use lib.ListN.{length, get_or, take, drop, replicate, length-drop, take-append-drop}
+use lib.Seq.{paste, length-paste, drop-paste, length-take-le, drop-append-le, take-append-le}
 use borrow.Author.Tests.{eqb-true, lt-ltb, le-ltb, lt-leb, eq-eqb, ne_eqb}
 use Rattle.laws.proofs.Blocks.{block_before}
 use Rattle.laws.proofs.Cases.{by_test}
@@ -98,11 +97,6 @@ unfolding node_ok
 passed_ready s m c l f nodes i h = node_ready s m c l f nodes i (node_facts c nodes i h.formed) h.inside
 
 -- ---- the copy
-
--- one word more
-pub copy_more : (d s to : List ℕ) (i : ℕ) → i < length d → i < length s → to ≡ paste d 0 s i → set to i (get_or s i 0) ≡ paste d 0 s (i + 1)
-copy_more d s to i a b e =
-    rw (e, add-one i) (subst (λ (k : ℕ). set (paste d 0 s i) k (get_or s i 0) ≡ paste d 0 s (suc i)) (zero-add i) (paste-suc d 0 s i 0 (omega arith) b))
 
 -- a part of a list's front
 part_front : (xs ys : List ℕ) (k n : ℕ) → k + n ≤ length xs → take n (drop k (xs ++ ys)) ≡ take n (drop k xs)

@@ -2,7 +2,7 @@
 -- Assumes nothing.
 use mathlib.Core.Bool.{false, cond}
 use mathlib.Core.List.{List}
-use mathlib.Core.Option.{none}
+use Rattle.std.specs.Prelude.{None}
 use mathlib.Core.Path.{◌≡◌, refl, ap, ◌∙◌}
 use Prim.Native.Nat.{ℕ, ◌+◌, ◌*◌, ◌<◌, ◌≤◌}
 use native.Mathlib.Nat.{mul-le-mul, le_refl, mul-zero, zero-add, add-mul, one-mul}
@@ -69,7 +69,7 @@ module _ (s : Strides) (m : Limits) (c : Counts) (l : Lent) (f : Fits s m c l) w
         second_operand = λ r v. (n.binary r (omega arith)).1;
       }
 
-  pub ready : (nodes roots : List ℕ) (room : ℕ) → WellFormed c nodes roots → lowest (node_outside m nodes) c.nodes ≡ none → 4 * c.nodes ≤ length nodes → 4 * c.nodes ≤ room → Ready s nodes c.nodes l room
+  pub ready : (nodes roots : List ℕ) (room : ℕ) → WellFormed c nodes roots → lowest (node_outside m nodes) c.nodes ≡ None → 4 * c.nodes ≤ length nodes → 4 * c.nodes ≤ room → Ready s nodes c.nodes l room
   ready nodes roots room w h a b =
       record {
         nodes_long = a;

@@ -1,20 +1,18 @@
 -- What the field promises of words, said of values.
 -- Assumes nothing.
-use mathlib.Core.Bool.{Bool, true, false}
+use mathlib.Core.Bool.{true, false}
 use mathlib.Core.Path.{◌≡◌, refl}
 use mathlib.Core.List.{List, [], ◌∷◌}
-use Prim.Native.Nat.{ℕ, ◌/◌, ◌%◌, ◌<◌}
-use native.Mathlib.Omega.{arith}
+use Prim.Native.Nat.{ℕ, ◌/◌, ◌%◌}
 use borrow.Author.Tests.{eq-eqb, ne_eqb}
 use Rattle.ir.specs.Words.{main_of}
 use Rattle.laws.specs.Lists.{block}
-use Rattle.laws.proofs.Cases.{by_test}
 use Rattle.field.specs.Base.{Is}
 use Rattle.extension.specs.Ext.{embedded, Limbs, LeastLimbs}
 use Rattle.field.proofs.Laws.{zero_is}
 use Rattle.extension.proofs.ExtLaws.{limbs_of_lem, limbs_stand, least_limbs, remainders_near}
 use Rattle.values.specs.Values.{base, ext}
-use Rattle.values.specs.Frame.{triple, MainIn}
+use Rattle.values.specs.Frame.{triple}
 use Rattle.values.specs.Room.{ValueIs}
 
 -- a base word, embedded
@@ -31,11 +29,6 @@ ext_is h = record { class_is = refl; limbs_are = h }
 
 pub ext_leaf_is : (s : List ℕ) (k : ℕ) {l r : List ℕ} → l ≡ block 3 s k → LeastLimbs 3 l r → ValueIs (ext (triple s k)) 1 r
 ext_leaf_is s k e h = ext_is (limbs_stand (least_limbs (rw e at h)) (remainders_near 3 (block 3 s k)))
-
--- a main cell's place is inside, whichever its class
-pub main_below : {wide : Bool} {at size : ℕ} → MainIn wide at size → at < size
-main_below {wide} {at} {size} h =
-    by_test wide (at < size) (λ t. let q = h.ext_cell t in omega arith) λ t. h.base_cell t
 
 -- the main mark, as the code tests it
 pub main_mark : (y : ℕ) → (y / 65536 % 2 ≡ 0 → ⊥) → main_of y ≡ true

@@ -7,6 +7,7 @@ use Rattle.extension.specs.Tower.{remainders}
 use Rattle.ir.specs.Words.{node_at, const_base, const_ext, var, rap_challenge, alpha_pow, table_offset, main_of, offset_of}
 use Rattle.ir.specs.declared.program.Counts.{Counts}
 use Rattle.ir.specs.declared.frame.Shape.{Shape}
+use Rattle.values.specs.declared.frame.Inputs.{Inputs}
 use Rattle.values.specs.declared.frame.Limits.{Limits}
 use Rattle.values.specs.declared.frame.Strides.{Strides}
 use Rattle.values.specs.Values.{Value, base, ext, Leaves}
@@ -33,6 +34,10 @@ pub record Lent : Type 0 where
 abbrev pub lent : (bases exts main aux challenges alphas offset : List ℕ) → Lent
 lent bases exts main aux challenges alphas offset =
     record { bases = bases; exts = exts; main = main; aux = aux; challenges = challenges; alphas = alphas; offset = offset }
+
+-- the same by the program's slices of them
+abbrev pub lent_in : Inputs → Lent
+lent_in i = lent i.bases.now i.exts.now i.main.now i.aux.now i.challenges.now i.alphas.now i.offset.limbs
 
 -- one row: no other cells and no uniforms
 abbrev pub row_lent : (bases exts row : List ℕ) → Lent

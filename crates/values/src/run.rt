@@ -5,13 +5,12 @@ ghost use Rattle.laws.specs.Lists.{tabulate};
 ghost use Rattle.extension.specs.Ext.{limb};
 ghost use Rattle.extension.specs.Tower.{goldilocks};
 ghost use Rattle.values.specs.Values.{values};
-ghost use Rattle.values.specs.Frame.{lent, leaves};
+ghost use Rattle.values.specs.Frame.{lent_in, leaves};
 ghost use Rattle.values.specs.Room.{RoomHolds};
 ghost use Rattle.values.specs.Operations.{LowBefore, NodeReady, Computes, Ready};
 
-use super::frame::Strides;
+use super::frame::{Inputs, Strides};
 use super::value::{Value, leaf, operation};
-use extension::extensions_goldilocks::Ext;
 use ir::node::OP_ADD;
 
 fn node_value(
@@ -20,22 +19,14 @@ fn node_value(
     x: u32,
     y: u32,
     s: Strides,
-    offset: Ext,
-    bases: &[u64],
-    exts: &[u64],
-    main: &[u64],
-    aux: &[u64],
-    challenges: &[u64],
-    alphas: &[u64],
+    inputs: &Inputs,
     room: &[u64],
 ) -> Value
-    requires { (4 * i ≤ length room.now) × NodeReady s (lent bases.now exts.now main.now aux.now challenges.now alphas.now offset.limbs) i tag x y × LowBefore room.now i }
-    ensures { Computes s (lent bases.now exts.now main.now aux.now challenges.now alphas.now offset.limbs) room.now tag x y result.class result.limbs.limbs }
+    requires { (4 * i ≤ length room.now) × NodeReady s (lent_in inputs.now) i tag x y × LowBefore room.now i }
+    ensures { Computes s (lent_in inputs.now) room.now tag x y result.class result.limbs.limbs }
 {
     if tag < OP_ADD {
-        leaf(
-            tag, x, y, s, offset, bases, exts, main, aux, challenges, alphas,
-        )
+        leaf(tag, x, y, s, inputs)
     } else {
         operation(tag, x as usize, y as usize, room)
     }
@@ -48,45 +39,18 @@ pub fn store_value(room: &mut [u64], i: usize, v: Value)
     let at = 4 * i;
     let limbs = v.limbs;
     room[at] = v.class;
-    limbs.store(&mut room[..], at + 1);
+    limbs.store(room, at + 1);
 }
 
-// Every node's value into the room, in order: a node reads only nodes before it.
-pub fn run(
-    n: usize,
-    s: Strides,
-    offset: Ext,
-    nodes: &[u32],
-    bases: &[u64],
-    exts: &[u64],
-    main: &[u64],
-    aux: &[u64],
-    challenges: &[u64],
-    alphas: &[u64],
-    room: &mut [u64],
-)
-    requires { Ready s nodes.now n (lent bases.now exts.now main.now aux.now challenges.now alphas.now offset.limbs) (length room.old) }
-    ensures { RoomHolds (values goldilocks (leaves s (lent bases.now exts.now main.now aux.now challenges.now alphas.now offset.limbs)) nodes.now n) n room.old room.new }
+// Every node's value into the room, in order: a node reads only nodes before it. Lent words may be more than n nodes, and the
+// definitions speak of the first n.
+pub fn run(n: usize, s: Strides, inputs: &Inputs, nodes: &[u32], room: &mut [u64])
+    requires { Ready s nodes.now n (lent_in inputs.now) (length room.old) }
+    ensures { RoomHolds (values goldilocks (leaves s (lent_in inputs.now)) nodes.now n) n room.old room.new }
 {
-    let mut i: usize = 0;
-    while i < n {
+    for i in 0..n {
         let at = 4 * i;
-        let v = node_value(
-            i,
-            nodes[at],
-            nodes[at + 1],
-            nodes[at + 2],
-            s,
-            offset,
-            bases,
-            exts,
-            main,
-            aux,
-            challenges,
-            alphas,
-            &room[..],
-        );
-        store_value(&mut room[..], i, v);
-        i += 1;
+        let v = node_value(i, nodes[at], nodes[at + 1], nodes[at + 2], s, inputs, room);
+        store_value(room, i, v);
     }
 }

@@ -1,15 +1,15 @@
 // A node's value: its class and its limbs, a base value embedded.
-ghost use Rattle.std.specs.Prelude.{cond, List, ◌≡◌, ℕ, ◌+◌, ◌*◌, ◌%◌, ◌<◌, ◌≤◌, length, get_or};
+ghost use Rattle.std.specs.Prelude.{cond, List, [], ◌∷◌, ◌≡◌, ℕ, ◌+◌, ◌*◌, ◌%◌, ◌<◌, ◌≤◌, length, get_or};
 ghost use Rattle.field.specs.Base.{p, Is};
 ghost use Rattle.extension.specs.Ext.{Limbs};
 ghost use Rattle.extension.specs.Tower.{goldilocks, remainders};
 ghost use Rattle.values.specs.Values.{leaf_value, operation_value, base, ext};
 ghost use Rattle.ir.specs.Words.{main_of, offset_of};
-ghost use Rattle.values.specs.Frame.{word, triple, main_cell, lent, leaves, MainIn, CellIn, LeafIn};
+ghost use Rattle.values.specs.Frame.{word, triple, main_cell, lent_in, leaves, MainIn, CellIn, LeafIn};
 ghost use Rattle.values.specs.Room.{ValueIs};
 ghost use Rattle.values.specs.Operations.{base_op, ext_op, Operates};
 
-use super::frame::Strides;
+use super::frame::{Inputs, Strides};
 use extension::extensions_goldilocks::Ext;
 use field::goldilocks::Fp;
 use ir::node::{
@@ -22,20 +22,34 @@ pub struct Value {
     pub limbs: Ext,
 }
 
+// The classes, numbers and no enum: a class is the first of a value's words in the room that is lent.
 pub const BASE: u64 = 0;
 
 pub const EXT: u64 = 1;
+
+impl Value {
+    // A base value, embedded.
+    pub fn of_base(x: u64) -> Value
+        ensures { result ≡ record { class = 0; limbs = record { limbs = x ∷ 0 ∷ 0 ∷ [] } } }
+    {
+        Value {
+            class: BASE,
+            limbs: Ext { limbs: [x, 0, 0] },
+        }
+    }
+
+    pub fn of_ext(limbs: Ext) -> Value
+        ensures { result ≡ record { class = 1; limbs = limbs } }
+    {
+        Value { class: EXT, limbs }
+    }
+}
 
 // A base leaf, as the room keeps it.
 pub fn base_leaf(x: u64) -> Value
     ensures { ValueIs (base (x % p)) result.class result.limbs.limbs }
 {
-    Value {
-        class: BASE,
-        limbs: Ext {
-            limbs: [Fp::reduce(x), 0, 0],
-        },
-    }
+    Value::of_base(Fp::reduce(x))
 }
 
 // Extension leaf k of a table.
@@ -43,10 +57,7 @@ pub fn ext_leaf(s: &[u64], k: usize) -> Value
     requires { 3 * k + 3 ≤ length s.now }
     ensures { ValueIs (ext (triple s.now k)) result.class result.limbs.limbs }
 {
-    Value {
-        class: EXT,
-        limbs: Ext::load(s, 3 * k).reduce(),
-    }
+    Value::of_ext(Ext::load(s, 3 * k).reduce())
 }
 
 // A main cell: an extension value in the verifier's frame.
@@ -77,40 +88,27 @@ fn cell(s: Strides, x: u32, y: u32, main: &[u64], aux: &[u64]) -> Value
 pub fn offset_leaf(offset: Ext) -> Value
     ensures { ValueIs (ext (remainders 3 offset.limbs)) result.class result.limbs.limbs }
 {
-    Value {
-        class: EXT,
-        limbs: offset.reduce(),
-    }
+    Value::of_ext(offset.reduce())
 }
 
 // A leaf by its tag, inside the lent memory.
-pub fn leaf(
-    tag: u32,
-    x: u32,
-    y: u32,
-    s: Strides,
-    offset: Ext,
-    bases: &[u64],
-    exts: &[u64],
-    main: &[u64],
-    aux: &[u64],
-    challenges: &[u64],
-    alphas: &[u64],
-) -> Value
-    requires { LeafIn s tag x y (lent bases.now exts.now main.now aux.now challenges.now alphas.now offset.limbs) }
-    ensures { ValueIs (leaf_value goldilocks (leaves s (lent bases.now exts.now main.now aux.now challenges.now alphas.now offset.limbs)) tag x y) result.class result.limbs.limbs }
+#[tactic(auto, unfolding(crate::specs::Values::leaf_value))]
+pub fn leaf(tag: u32, x: u32, y: u32, s: Strides, inputs: &Inputs) -> Value
+    requires { LeafIn s tag x y (lent_in inputs.now) }
+    ensures { ValueIs (leaf_value goldilocks (leaves s (lent_in inputs.now)) tag x y) result.class result.limbs.limbs }
 {
     match tag {
-        OP_CONST_BASE => base_leaf(bases[x as usize]),
-        OP_CONST_EXT => ext_leaf(exts, x as usize),
-        OP_VAR => cell(s, x, y, main, aux),
-        OP_RAP_CHALLENGE => ext_leaf(challenges, x as usize),
-        OP_ALPHA_POW => ext_leaf(alphas, x as usize),
-        _ => offset_leaf(offset),
+        OP_CONST_BASE => base_leaf(inputs.bases[x as usize]),
+        OP_CONST_EXT => ext_leaf(inputs.exts, x as usize),
+        OP_VAR => cell(s, x, y, inputs.main, inputs.aux),
+        OP_RAP_CHALLENGE => ext_leaf(inputs.challenges, x as usize),
+        OP_ALPHA_POW => ext_leaf(inputs.alphas, x as usize),
+        _ => offset_leaf(inputs.offset),
     }
 }
 
 // Operands that stand in the room are below P.
+#[tactic(auto, unfolding(crate::specs::Operations::base_op))]
 pub fn base_operation(tag: u32, a: u64, b: u64) -> u64
     requires { (a < p) × (b < p) }
     ensures { Is (base_op tag a b) result }
@@ -122,6 +120,7 @@ pub fn base_operation(tag: u32, a: u64, b: u64) -> u64
     }
 }
 
+#[tactic(auto, unfolding(crate::specs::Operations::ext_op))]
 fn ext_operation(tag: u32, a: Ext, b: Ext) -> Ext
     ensures { Limbs 3 (ext_op tag a.limbs b.limbs) result.limbs }
 {
@@ -139,19 +138,13 @@ fn binary(tag: u32, x: usize, y: usize, room: &[u64]) -> Value
 {
     let at = 4 * x;
     let to = 4 * y;
-    if room[at] == BASE {
-        if room[to] == BASE {
-            let r = base_operation(tag, room[at + 1], room[to + 1]);
-            return Value {
-                class: BASE,
-                limbs: Ext { limbs: [r, 0, 0] },
-            };
-        }
+    if room[at] == BASE && room[to] == BASE {
+        let r = base_operation(tag, room[at + 1], room[to + 1]);
+        return Value::of_base(r);
     }
-    Value {
-        class: EXT,
-        limbs: ext_operation(tag, Ext::load(room, at + 1), Ext::load(room, to + 1)),
-    }
+    let a = Ext::load(room, at + 1);
+    let b = Ext::load(room, to + 1);
+    Value::of_ext(ext_operation(tag, a, b))
 }
 
 // Neg keeps its operand's class, Embed is extension.
@@ -161,23 +154,12 @@ fn unary(tag: u32, x: usize, y: usize, room: &[u64]) -> Value
 {
     let at = 4 * x;
     if tag != OP_NEG {
-        return Value {
-            class: EXT,
-            limbs: Ext::load(room, at + 1).reduce(),
-        };
+        return Value::of_ext(Ext::load(room, at + 1).reduce());
     }
     if room[at] == BASE {
-        return Value {
-            class: BASE,
-            limbs: Ext {
-                limbs: [Fp::neg(room[at + 1]), 0, 0],
-            },
-        };
+        return Value::of_base(Fp::neg(room[at + 1]));
     }
-    Value {
-        class: EXT,
-        limbs: Ext::load(room, at + 1).neg(),
-    }
+    Value::of_ext(Ext::load(room, at + 1).neg())
 }
 
 pub fn operation(tag: u32, x: usize, y: usize, room: &[u64]) -> Value

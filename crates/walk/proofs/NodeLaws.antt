@@ -11,11 +11,11 @@ use Rattle.laws.proofs.Cases.{by_test}
 use Rattle.laws.proofs.Tests.{clash, and_left, and_right}
 use Rattle.ir.specs.declared.frame.Shape.{Shape}
 use Rattle.blob_rules.specs.declared.blob.BlobCounts.{BlobCounts}
-use Rattle.blob_rules.specs.Blob.{is_ext, slot_of, base_slots_of, ext_slots_of, tags, kinds}
+use Rattle.blob_rules.specs.Blob.{Instr, is_ext, slot_of, base_slots_of, ext_slots_of, tags, kinds}
 use Rattle.blob_rules.specs.Check.{Filled, slot_in, slot_of_class, operand_ok, form_ok}
 use Rattle.blob_rules.proofs.CheckLaws.{node_unknown, node_by}
 use Rattle.device.proofs.Theorem.{by_operation}
-use Rattle.slots.specs.Steps.{NodeLegal, instr, BaseLegal, ExtLegal}
+use Rattle.slots.specs.Steps.{NodeLegal, BaseLegal, ExtLegal}
 
 -- what the check tells of an operation's operands
 pub record OperandsLegal (c : BlobCounts) (s : Shape) (op a b res : ℕ) : Type 0 where
@@ -27,7 +27,7 @@ pub record OperandsLegal (c : BlobCounts) (s : Shape) (op a b res : ℕ) : Type 
 
 module _ (c : BlobCounts) (s : Shape) (a b res : ℕ) (f : Filled) where
   abbrev ok_of : ℕ → ℕ → Type 0
-  ok_of op k = form_ok tags kinds c s f (at tags k) (instr op a b res) ≡ true
+  ok_of op k = form_ok tags kinds c s f (at tags k) (record { op = op; a = a; b = b; res = res }) ≡ true
 
   -- an operand of a result of either class
   ext_of : (w : ℕ) → operand_ok tags kinds c s f (is_ext res) w ≡ true → is_ext res ≡ true → ExtLegal c s w
@@ -67,16 +67,16 @@ module _ (c : BlobCounts) (s : Shape) (a b res : ℕ) (f : Filled) where
       (λ e h. binary_legal (omega arith) h) (λ e h. binary_legal (omega arith) h) (λ e h. binary_legal (omega arith) h)
       (λ e h. negation_legal e h) (λ e h. embedding_legal e h)
 
-module _ (c : BlobCounts) (s : Shape) (op a b res : ℕ) (h : NodeLegal c s (instr op a b res)) where
+module _ (c : BlobCounts) (s : Shape) (w : Instr) (h : NodeLegal c s w) where
   -- no other tag is let through
-  pub known_tag : op ≤ 10
+  pub known_tag : w.op ≤ 10
   known_tag =
-      by_test (ltb 10 op) (op ≤ 10)
-      (λ t. clash h.ok (node_unknown c s h.filled (instr op a b res) (ltb-true 10 op t)))
-      λ t. ltb-false 10 op t
+      by_test (ltb 10 w.op) (w.op ≤ 10)
+      (λ t. clash h.ok (node_unknown c s h.filled w (ltb-true 10 w.op t)))
+      λ t. ltb-false 10 w.op t
 
-  pub operands_legal : 6 ≤ op → OperandsLegal c s op a b res
-  operands_legal l = by_tag c s a b res h.filled op op l known_tag refl (sym (node_by c s h.filled (instr op a b res) op refl) ∙ h.ok)
+  pub operands_legal : 6 ≤ w.op → OperandsLegal c s w.op w.a w.b w.res
+  operands_legal l = by_tag c s w.a w.b w.res h.filled w.op w.op l known_tag refl (sym (node_by c s h.filled w w.op refl) ∙ h.ok)
 
 -- ---- the slot of a result
 

@@ -2,7 +2,7 @@
 -- Assumes nothing.
 use mathlib.Core.Bool.{false, not, ◌&&◌}
 use mathlib.Core.List.{List, [], ◌∷◌}
-use mathlib.Core.Option.{Option, some, some-injective}
+use Rattle.std.specs.Prelude.{Option, Some}
 use mathlib.Core.Path.{◌≡◌, sym, ap, subst, ◌∙◌}
 use Prim.Native.Nat.{ℕ, ◌+◌, ◌<◌, ◌≤◌}
 use native.Mathlib.Nat.{add-zero}
@@ -33,6 +33,7 @@ use Rattle.device.specs.StepRule.{Slots, put}
 use Rattle.device.proofs.Exact.{not_held}
 use Rattle.slots.specs.Slots.{ext_word, slot_words, limbs_at}
 use Rattle.slots.specs.Steps.{stored, RoomKept}
+use Rattle.std.proofs.lemmas.Option.{same_Some}
 
 -- ---- words in a row
 
@@ -63,14 +64,14 @@ other_limbs c l ws j k e n =
 
 -- ---- a value stored
 
-same_some : {A : Type 0} {o : Option A} {x y : A} → o ≡ some x → o ≡ some y → x ≡ y
-same_some {x = x} {y = y} e f = some-injective x y (sym e ∙ f)
+same_some : {A : Type 0} {o : Option A} {x y : A} → o ≡ Some x → o ≡ Some y → x ≡ y
+same_some {x = x} {y = y} e f = same_Some x y (sym e ∙ f)
 
 module _ (c : BlobCounts) (m : Slots ℕ (List ℕ)) (old mid : List ℕ) (h : RoomKept c m old mid) (long : slot_words c ≤ length mid) where
   -- a base value in base slot k
   module _ (k x r : ℕ) (in_class : k < base_slots_of c) (value : r ≈ x) (below : r < p) where
     abbrev after₀ : Slots ℕ (List ℕ)
-    after₀ = record { bases = upd m.bases k (some x); exts = m.exts }
+    after₀ = record { bases = upd m.bases k (Some x); exts = m.exts }
 
     pub base_stored : RoomKept c after₀ old (set mid k r)
     base_stored =
@@ -80,19 +81,19 @@ module _ (c : BlobCounts) (m : Slots ℕ (List ℕ)) (old mid : List ℕ) (h : R
                 bases = λ j y e.
                     by_test (eqb j k) ((j < base_slots_of c) × (get_or (set mid k r) j 0 ≈ y))
                     (λ t. let q = eqb-true j k t in
-                    rw (q, get_or-set_same mid k r 0 (omega arith)) (in_class, value then equal (same_some (upd_here m.bases k (some x)) (rw q at e))))
-                    (λ t. let n = eqb-false j k t in let z = h.holds.bases j y (sym (upd_other m.bases k (some x) j n) ∙ e) in
+                    rw (q, get_or-set_same mid k r 0 (omega arith)) (in_class, value then equal (same_some (upd_here m.bases k (Some x)) (rw q at e))))
+                    (λ t. let n = eqb-false j k t in let z = h.holds.bases j y (sym (upd_other m.bases k (Some x) j n) ∙ e) in
                     rw (get_or-set_other mid k j r 0 n) z);
                 exts = λ j y e. let z = h.holds.exts j y e in rw (after_limbs mid (r ∷ []) k (ext_word c j) (omega arith)) z;
               };
           base_low = λ j y e.
               by_test (eqb j k) (get_or (set mid k r) j 0 < p)
               (λ t. rw (eqb-true j k t, get_or-set_same mid k r 0 (omega arith)) below)
-              (λ t. let n = eqb-false j k t in rw (get_or-set_other mid k j r 0 n) (h.base_low j y (sym (upd_other m.bases k (some x) j n) ∙ e)));
+              (λ t. let n = eqb-false j k t in rw (get_or-set_other mid k j r 0 n) (h.base_low j y (sym (upd_other m.bases k (Some x) j n) ∙ e)));
           base_kept = λ j l e.
               by_test (eqb j k) (get_or (set mid k r) j 0 ≡ get_or old j 0)
-              (λ t. none_some (rw (eqb-true j k t) at e) (upd_here m.bases k (some x)))
-              (λ t. let n = eqb-false j k t in get_or-set_other mid k j r 0 n ∙ h.base_kept j l (sym (upd_other m.bases k (some x) j n) ∙ e));
+              (λ t. none_some (rw (eqb-true j k t) at e) (upd_here m.bases k (Some x)))
+              (λ t. let n = eqb-false j k t in get_or-set_other mid k j r 0 n ∙ h.base_kept j l (sym (upd_other m.bases k (Some x) j n) ∙ e));
           ext_low = λ j y e i l. rw (after_limbs mid (r ∷ []) k (ext_word c j) (omega arith)) (h.ext_low j y e i l);
           ext_kept = λ j l e. after_limbs mid (r ∷ []) k (ext_word c j) (omega arith) ∙ h.ext_kept j l e;
           rest = drop-set-lt (slot_words c) mid k r (omega arith) ∙ h.rest;
@@ -102,7 +103,7 @@ module _ (c : BlobCounts) (m : Slots ℕ (List ℕ)) (old mid : List ℕ) (h : R
   -- an extension value in extension slot k
   module _ (k : ℕ) (x ws : List ℕ) (in_class : k < ext_slots_of c) (stands : Limbs 3 x ws) where
     abbrev after₁ : Slots ℕ (List ℕ)
-    after₁ = record { bases = m.bases; exts = upd m.exts k (some x) }
+    after₁ = record { bases = m.bases; exts = upd m.exts k (Some x) }
 
     here : limbs_at (sets mid (ext_word c k) ws) (ext_word c k) ≡ ws
     here = subst (λ (n : ℕ). take n (drop (ext_word c k) (sets mid (ext_word c k) ws)) ≡ ws) stands.long (sets_here mid (ext_word c k) ws (rw stands.long (omega arith)))
@@ -116,38 +117,38 @@ module _ (c : BlobCounts) (m : Slots ℕ (List ℕ)) (old mid : List ℕ) (h : R
                 exts = λ j y e.
                     by_test (eqb j k) ((j < ext_slots_of c) × Near 3 (limbs_at (sets mid (ext_word c k) ws) (ext_word c j)) y)
                     (λ t. let q = eqb-true j k t in
-                    rw (q, here) (in_class, rw (← same_some (upd_here m.exts k (some x)) (rw q at e)) (limbs_near stands)))
-                    (λ t. let n = eqb-false j k t in rw (other_limbs c mid ws j k stands.long n) (h.holds.exts j y (sym (upd_other m.exts k (some x) j n) ∙ e)));
+                    rw (q, here) (in_class, rw (← same_some (upd_here m.exts k (Some x)) (rw q at e)) (limbs_near stands)))
+                    (λ t. let n = eqb-false j k t in rw (other_limbs c mid ws j k stands.long n) (h.holds.exts j y (sym (upd_other m.exts k (Some x) j n) ∙ e)));
               };
           base_low = λ j y e. let z = h.holds.bases j y e in rw (before_word mid ws (ext_word c k) j (omega arith)) (h.base_low j y e);
           base_kept = λ j l e. before_word mid ws (ext_word c k) j (omega arith) ∙ h.base_kept j l e;
           ext_low = λ j y e i l.
               by_test (eqb j k) (limb (limbs_at (sets mid (ext_word c k) ws) (ext_word c j)) i < p)
               (λ t. rw (eqb-true j k t, here) (stands.limb_is i l).below)
-              (λ t. let n = eqb-false j k t in rw (other_limbs c mid ws j k stands.long n) (h.ext_low j y (sym (upd_other m.exts k (some x) j n) ∙ e) i l));
+              (λ t. let n = eqb-false j k t in rw (other_limbs c mid ws j k stands.long n) (h.ext_low j y (sym (upd_other m.exts k (Some x) j n) ∙ e) i l));
           ext_kept = λ j l e.
               by_test (eqb j k) (limbs_at (sets mid (ext_word c k) ws) (ext_word c j) ≡ limbs_at old (ext_word c j))
-              (λ t. none_some (rw (eqb-true j k t) at e) (upd_here m.exts k (some x)))
-              (λ t. let n = eqb-false j k t in other_limbs c mid ws j k stands.long n ∙ h.ext_kept j l (sym (upd_other m.exts k (some x) j n) ∙ e));
+              (λ t. none_some (rw (eqb-true j k t) at e) (upd_here m.exts k (Some x)))
+              (λ t. let n = eqb-false j k t in other_limbs c mid ws j k stands.long n ∙ h.ext_kept j l (sym (upd_other m.exts k (Some x) j n) ∙ e));
           rest = sets_after ws mid (ext_word c k) (slot_words c) (rw stands.long (let q = block_before 3 in_class in omega arith)) ∙ h.rest;
           long = length-sets mid (ext_word c k) ws ∙ h.long;
         }
 
   -- whichever it is
-  pub kept_put : (res : ℕ) (v : Value ℕ (List ℕ)) {n : Slots ℕ (List ℕ)} {class : ℕ} {limbs new : List ℕ} → put c m res v ≡ some n → ValueIs v class limbs → new ≡ stored c res limbs mid → RoomKept c n old new
+  pub kept_put : (res : ℕ) (v : Value ℕ (List ℕ)) {n : Slots ℕ (List ℕ)} {class : ℕ} {limbs new : List ℕ} → put c m res v ≡ Some n → ValueIs v class limbs → new ≡ stored c res limbs mid → RoomKept c n old new
   kept_put res (base x) {n} {class} {limbs} z is e =
       let t = not (is_ext res) in
       let l = ltb (slot_of res) (base_slots_of c) in
-      let q = only_some (t && l) (some (record { bases = upd m.bases (slot_of res) (some x); exts = m.exts })) z in
+      let q = only_some (t && l) (Some (record { bases = upd m.bases (slot_of res) (Some x); exts = m.exts })) z in
       let w : is_ext res ≡ false = not_held (is_ext res) (and_left t l q.0) in
       let i = is.limbs_are.limb_is 0 (lit< tt) in
-      rw (e, w, ← some-injective (record { bases = upd m.bases (slot_of res) (some x); exts = m.exts }) n q.1)
+      rw (e, w, ← same_Some (record { bases = upd m.bases (slot_of res) (Some x); exts = m.exts }) n q.1)
       (base_stored (slot_of res) x (limb limbs 0) (ltb-true (slot_of res) (base_slots_of c) (and_right t l q.0)) (base_word (limbs_near is.limbs_are)) i.below)
   kept_put res (ext x) {n} {class} {limbs} z is e =
       let t = is_ext res in
       let l = ltb (slot_of res) (ext_slots_of c) in
-      let q = only_some (t && l) (some (record { bases = m.bases; exts = upd m.exts (slot_of res) (some x) })) z in
-      rw (e, and_left t l q.0, ← some-injective (record { bases = m.bases; exts = upd m.exts (slot_of res) (some x) }) n q.1)
+      let q = only_some (t && l) (Some (record { bases = m.bases; exts = upd m.exts (slot_of res) (Some x) })) z in
+      rw (e, and_left t l q.0, ← same_Some (record { bases = m.bases; exts = upd m.exts (slot_of res) (Some x) }) n q.1)
       (ext_stored (slot_of res) x (tabulate 3 (limb limbs)) (ltb-true (slot_of res) (ext_slots_of c) (and_right t l q.0)) (kept_limbs is.limbs_are))
 
 pub stored_long : (c : BlobCounts) (res : ℕ) (limbs room : List ℕ) → length (stored c res limbs room) ≡ length room

@@ -1,5 +1,7 @@
 -- The promise of the walk leaves one answer and one memory, and its rows stand in document 01's order.
 -- Assumes nothing.
+use Rattle.std.specs.Prelude.{Result}
+use Rattle.ir.specs.declared.refusal.Refusal.{Refusal}
 use mathlib.Core.Bool.{true}
 use mathlib.Core.List.{List}
 use mathlib.Core.Path.{◌≡◌, refl, sym, ap, ◌∙◌}
@@ -12,7 +14,6 @@ use borrow.Author.Tests.{ltb-true, ltb-false}
 use Rattle.laws.proofs.Cases.{by_test}
 use Rattle.extension.specs.Ext.{limb}
 use Rattle.ir.specs.declared.frame.Shape.{Shape}
-use Rattle.ir.specs.declared.refusal.Outcome.{Outcome}
 use Rattle.ir.specs.Refusals.{in_order, any_holds}
 use Rattle.ir.proofs.Single.{outcome_single}
 use Rattle.values.specs.Frame.{Lent}
@@ -63,7 +64,7 @@ module _ (c : BlobCounts) (m : Slots ℕ (List ℕ)) (old a b : List ℕ) (f : S
       (λ z. ext_same j (ltb-false j (base_slots_of c) t) (ltb-true j (slot_words c) z))
       λ z. rest_same j (ltb-false j (slot_words c) z)
 
-pub walk_single : {b : Blob} {s : Shape} {l : Lent} {r r' : Outcome} {base base₁ base₂ ext ext₁ ext₂ marks marks₁ marks₂ slots slots₁ slots₂ : List ℕ}
+pub walk_single : {b : Blob} {s : Shape} {l : Lent} {r r' : Result (Unit {0}) Refusal} {base base₁ base₂ ext ext₁ ext₂ marks marks₁ marks₂ slots slots₁ slots₂ : List ℕ}
     → WalkAnswer b s l r base base₁ ext ext₁ marks marks₁ slots slots₁ → WalkAnswer b s l r' base base₂ ext ext₂ marks marks₂ slots slots₂
     → (r ≡ r') × (base₁ ≡ base₂) × (ext₁ ≡ ext₂) × (marks₁ ≡ marks₂) × (slots₁ ≡ slots₂)
 walk_single {b} {s} {l} {r} {r'} {base} {base₁} {base₂} {ext} {ext₁} {ext₂} {marks} {marks₁} {marks₂} {slots} {slots₁} {slots₂} f g = (

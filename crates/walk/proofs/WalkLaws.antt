@@ -2,7 +2,7 @@
 -- Assumes nothing.
 use mathlib.Core.Bool.{Bool, true, false, not, ◌&&◌, ◌||◌}
 use mathlib.Core.List.{List, [], ◌∷◌, ◌++◌}
-use mathlib.Core.Option.{Option, none, some}
+use Rattle.std.specs.Prelude.{Option, None, Some, Result, Ok, Err}
 use mathlib.Core.Path.{◌≡◌, refl, sym, ap, ◌∙◌}
 use Prim.Native.Nat.{ℕ, ◌+◌, ◌*◌, ◌<◌, ◌≤◌, min}
 use native.Mathlib.Omega.{arith}
@@ -22,8 +22,6 @@ use Rattle.extension.specs.Tower.{goldilocks}
 use Rattle.field.proofs.Laws.{equal}
 use Rattle.extension.proofs.ExtLaws.{near_refl}
 use Rattle.ir.specs.declared.frame.Shape.{Shape}
-use Rattle.ir.specs.declared.refusal.Outcome.{Outcome}
-use Rattle.ir.specs.declared.refusal.Outcome.TheVariants.{Done, Refused}
 use Rattle.ir.specs.declared.refusal.Refusal.{Refusal}
 use Rattle.ir.specs.Shape.{over_shape}
 use Rattle.ir.specs.Refusals.{Row, found, first, any_holds, gives, said_of_outcome}
@@ -41,19 +39,14 @@ use Rattle.blob_rules.specs.Marks.{LegalChecked}
 use Rattle.device.proofs.Exact.{Through, through, root_stops}
 use Rattle.device.proofs.CallLaws.{LongEnough, long_enough}
 use Rattle.blob_rules.proofs.MarkLaws.{bad_node, cleared_rest, cleared_long}
-use Rattle.walk.specs.declared.walk.FrameLengths.{FrameLengths}
 use Rattle.slots.specs.Slots.{ext_word, slot_words, limbs_at, held_word, held_limbs, SlotsEnd}
 use Rattle.slots.specs.Trace.{contents}
-use Rattle.walk.specs.Walk.{short_frame, short_walk, short_evals, memory_rows, walk_rows, frame_lengths, value_or, final_slots, root_values, WalkAnswer}
+use Rattle.walk.specs.Walk.{FrameLengths, short_frame, short_walk, short_evals, memory_rows, walk_rows, frame_lengths, value_or, final_slots, root_values, WalkAnswer}
 use Rattle.slots.specs.Steps.{RootPlace, RoomKept, RowWalked, RootsWritten, RowReady, RowDone, FrameWalked}
 
--- a blob from what was lent
-abbrev pub blob_of : BlobCounts → List ℕ → List ℕ → Blob
-blob_of c nodes roots = record { counts = c; nodes = nodes; roots = roots }
-
 -- the pass and the writing together
-pub row_done : (c : BlobCounts) (s : Shape) (rows row : ℕ) (l : Lent) (nodes roots base base' ext ext' slots slots' : List ℕ) → RowWalked c s rows row l nodes c.nodes slots slots' → RootsWritten c c.roots (num_base_of c) roots slots' base base' ext ext' → RowDone c s rows row l nodes roots base base' ext ext' slots slots'
-row_done c s rows row l nodes roots base base' ext ext' slots slots' h k =
+pub row_done : (b : Blob) (s : Shape) (rows row : ℕ) (l : Lent) (base base' ext ext' slots slots' : List ℕ) → RowWalked b s rows row l b.counts.nodes slots slots' → RootsWritten b b.counts.roots slots' base base' ext ext' → RowDone b s rows row l base base' ext ext' slots slots'
+row_done b s rows row l base base' ext ext' slots slots' h k =
     record {
       follows = λ m env e z.
           let r = h.follows m e in
@@ -120,9 +113,9 @@ bad_root b r = not (root_ok b.counts (filled_after b.nodes b.counts.nodes) (get_
 
 -- nothing is at fault
 pub record Legal (b : Blob) (s : Shape) : Type 0 where
-  pub nodes_none : lowest (bad_node b.counts s b.nodes) b.counts.nodes ≡ none
-  pub roots_none : lowest (bad_root b) b.counts.roots ≡ none
-  pub class_none : ext_root b.counts b.roots ≡ none
+  pub nodes_none : lowest (bad_node b.counts s b.nodes) b.counts.nodes ≡ None
+  pub roots_none : lowest (bad_root b) b.counts.roots ≡ None
+  pub class_none : ext_root b.counts b.roots ≡ None
 
 legal : (b : Blob) (s : Shape) → any_holds (legal_rows b s) ≡ false → Legal b s
 unfolding illegal
@@ -154,11 +147,11 @@ module _ (b : Blob) (s : Shape) (k : Legal b s) where
     final_is : final_slots b s l ≡ all_through.slots
     final_is = rw all_through.come
 
-    root_named : (r : ℕ) → r < b.counts.roots → root_held all_through.slots (get_or b.roots r 0) ≡ some (root_values b s l (get_or b.roots r 0))
+    root_named : (r : ℕ) → r < b.counts.roots → root_held all_through.slots (get_or b.roots r 0) ≡ Some (root_values b s l (get_or b.roots r 0))
     root_named r h =
         let w = get_or b.roots r 0 in
         let q = present (root_held all_through.slots w) (root_stops goldilocks tags kinds b.counts s u all_through.slots (filled_after b.nodes b.counts.nodes) all_through.agrees w ∙ ap not (root_ok_lem r h)) in
-        q.1 ∙ ap (λ (v : Value ℕ (List ℕ)). some v) (sym (ap value_or (ap (λ (m : Slots ℕ (List ℕ)). root_held m w) final_is ∙ q.1)))
+        q.1 ∙ ap (λ (v : Value ℕ (List ℕ)). Some v) (sym (ap value_or (ap (λ (m : Slots ℕ (List ℕ)). root_held m w) final_is ∙ q.1)))
 
 -- ---- what the walk of a frame asks
 
@@ -201,7 +194,7 @@ module _ (b : Blob) (s : Shape) (l : Lent) (marks slots base ext : ℕ) where
         evals = or_left z false (or_right y (z || false) q);
       }
 
-  pub row_ready : RoomOk → Legal b s → RowReady b.counts s s.steps 0 l b.nodes b.roots base ext slots
+  pub row_ready : RoomOk → Legal b s → RowReady b s s.steps 0 l base ext slots
   row_ready o k =
       let f = o.long.frame in
       let w = within s o.shape_in in
@@ -235,8 +228,8 @@ module _ (c : BlobCounts) (m : Slots ℕ (List ℕ)) (old new : List ℕ) (long 
   zero_word j q = get_or-append (replicate (slot_words c) 0) (drop (slot_words c) old) 0 j (rw (length-replicate {A = ℕ} (slot_words c) 0) q) ∙ get_or-replicate (slot_words c) j 0 0 q
 
   base_end : (j : ℕ) (o : Option ℕ) → m.bases j ≡ o → j < base_slots_of c → (get_or new j 0 ≈ held_word o) × (get_or new j 0 < p)
-  base_end j none e q = let z = k.base_kept j q e ∙ zero_word j (omega arith) in (equal z, rw z (lit< tt))
-  base_end j (some x) e q = ((k.holds.bases j x e).1, k.base_low j x e)
+  base_end j None e q = let z = k.base_kept j q e ∙ zero_word j (omega arith) in (equal z, rw z (lit< tt))
+  base_end j (Some x) e q = ((k.holds.bases j x e).1, k.base_low j x e)
 
   zero_limbs : (j : ℕ) → j < ext_slots_of c → limbs_at (cleared (slot_words c) old) (ext_word c j) ≡ 0 ∷ 0 ∷ 0 ∷ []
   zero_limbs j q =
@@ -248,10 +241,10 @@ module _ (c : BlobCounts) (m : Slots ℕ (List ℕ)) (old new : List ℕ) (long 
       three a b d = rw (a, b, d)
 
   ext_end : (j : ℕ) (o : Option (List ℕ)) → m.exts j ≡ o → j < ext_slots_of c → Near 3 (limbs_at new (ext_word c j)) (held_limbs o) × ((i : ℕ) → i < 3 → limb (limbs_at new (ext_word c j)) i < p)
-  ext_end j none e q =
+  ext_end j None e q =
       let z = k.ext_kept j q e ∙ zero_limbs j q in
       (rw z (near_refl (0 ∷ 0 ∷ 0 ∷ [])), λ i l. rw z (by_three (λ (n : ℕ). limb (0 ∷ 0 ∷ 0 ∷ []) n < p) (lit< tt) (lit< tt) (lit< tt) i l))
-  ext_end j (some x) e q = ((k.holds.exts j x e).1, k.ext_low j x e)
+  ext_end j (Some x) e q = ((k.holds.exts j x e).1, k.ext_low j x e)
 
   pub slots_ended : SlotsEnd c m old new
   slots_ended =
@@ -267,11 +260,11 @@ module _ (c : BlobCounts) (m : Slots ℕ (List ℕ)) (old new : List ℕ) (long 
 -- ---- the promise
 
 module _ (b : Blob) (s : Shape) (l : Lent) (base ext marks slots : List ℕ) where
-  abbrev before : List Row
+  abbrev pub before : List Row
   before = memory_rows b s l (length marks) (length slots) (length base) (length ext)
 
   -- 2, 1 and 14
-  pub walk_refused : {o : Outcome} {why : Refusal} → o ≡ Refused why → said_of_outcome o ≡ first before (gives []) → WalkAnswer b s l (Refused why) base base ext ext marks marks slots slots
+  pub walk_refused : {o : Result (Unit {0}) Refusal} {why : Refusal} → o ≡ Err why → said_of_outcome o ≡ first before (gives []) → WalkAnswer b s l (Err why) base base ext ext marks marks slots slots
   walk_refused e h =
       let loud = loud_rows before e h in
       let q : any_holds (before ++ legal_rows b s) ≡ true = any_append before (legal_rows b s) ∙ ap (λ (t : Bool). t || any_holds (legal_rows b s)) loud in
@@ -289,7 +282,7 @@ module _ (b : Blob) (s : Shape) (l : Lent) (base ext marks slots : List ℕ) whe
     rows_are = any_append before (legal_rows b s) ∙ ap (λ (t : Bool). t || any_holds (legal_rows b s)) quiet
 
     -- 11 and 12
-    pub walk_illegal : {o : Outcome} {why : Refusal} {marks' : List ℕ} → o ≡ Refused why → LegalChecked b s o marks marks' → WalkAnswer b s l (Refused why) base base ext ext marks marks' slots slots
+    pub walk_illegal : {o : Result (Unit {0}) Refusal} {why : Refusal} {marks' : List ℕ} → o ≡ Err why → LegalChecked b s o marks marks' → WalkAnswer b s l (Err why) base base ext ext marks marks' slots slots
     walk_illegal e h =
         let q = rows_are ∙ loud_rows (legal_rows b s) e h.said in
         record {
@@ -301,10 +294,10 @@ module _ (b : Blob) (s : Shape) (l : Lent) (base ext marks slots : List ℕ) whe
           slots_end = λ z. clash q z;
         }
 
-    pub legal_done : {o : Outcome} {marks' : List ℕ} → o ≡ Done → LegalChecked b s o marks marks' → Legal b s
+    pub legal_done : {o : Result (Unit {0}) Refusal} {marks' : List ℕ} → o ≡ Ok tt → LegalChecked b s o marks marks' → Legal b s
     legal_done e h = legal b s (done_rows (legal_rows b s) refl e h.said)
 
-    pub walk_done : {o : Outcome} {marks' base' ext' slots' : List ℕ} → o ≡ Done → LegalChecked b s o marks marks' → FrameWalked b.counts s l b.nodes b.roots base base' ext ext' slots slots' → WalkAnswer b s l Done base base' ext ext' marks marks' slots slots'
+    pub walk_done : {o : Result (Unit {0}) Refusal} {marks' base' ext' slots' : List ℕ} → o ≡ Ok tt → LegalChecked b s o marks marks' → FrameWalked b s l base base' ext ext' slots slots' → WalkAnswer b s l (Ok tt) base base' ext ext' marks marks' slots slots'
     walk_done {o} {marks'} {base'} {ext'} {slots'} e h w =
         let k = legal_done e h in
         let q = rows_are ∙ done_rows (legal_rows b s) refl e h.said in

@@ -1,10 +1,9 @@
 -- The walk over a blob: its refusals in document 01's order, and what it leaves.
 -- Assumes nothing.
-use Rattle.std.specs.Prelude.{Bool, true, false, cond, ◌&&◌, ◌||◌, List, [], ◌∷◌, ◌++◌, ◌≡◌, ℕ, ◌*◌, min, ltb, length}
-use Rattle.std.proofs.Math.Option.{Option, none, some}
+use Rattle.ir.specs.declared.refusal.Refusal.{Refusal}
+use Rattle.std.specs.Prelude.{Bool, true, false, cond, ◌&&◌, ◌||◌, List, [], ◌∷◌, ◌++◌, ◌≡◌, ℕ, ◌*◌, min, ltb, length, Option, None, Some, Result}
 use Rattle.extension.specs.Tower.{goldilocks}
 use Rattle.ir.specs.declared.frame.Shape.{Shape}
-use Rattle.ir.specs.declared.refusal.Outcome.{Outcome}
 use Rattle.ir.specs.Shape.{over_shape}
 use Rattle.ir.specs.Refusals.{Row, row, first, any_holds, gives, said_of_outcome}
 use Rattle.values.specs.Values.{Value}
@@ -15,11 +14,19 @@ use Rattle.blob_rules.specs.declared.blob.BlobCounts.{BlobCounts}
 use Rattle.blob_rules.specs.Blob.{Blob, num_base_of, tags, kinds}
 use Rattle.device.specs.StepRule.{Slots, slots_after, root_held}
 use Rattle.blob_rules.specs.Check.{short_check, legal_rows, slot_count, cleared}
-use Rattle.walk.specs.declared.walk.FrameLengths.{FrameLengths}
 use Rattle.slots.specs.Slots.{slot_words, SlotsEnd}
 use Rattle.slots.specs.Trace.{contents}
 
 -- ---- refusals
+
+-- numbers of words
+pub record FrameLengths : Type 0 where
+  pub bases : ℕ
+  pub exts : ℕ
+  pub main : ℕ
+  pub aux : ℕ
+  pub challenges : ℕ
+  pub alphas : ℕ
 
 -- how many words of constants, cells and uniforms were lent
 abbrev pub frame_lengths : Lent → FrameLengths
@@ -70,13 +77,13 @@ walk_rows b s l marks slots base ext = memory_rows b s l marks slots base ext ++
 
 -- what a slot's word names, or 0 where it names nothing: no root of a blob that passes does
 abbrev pub value_or : Option (Value ℕ (List ℕ)) → Value ℕ (List ℕ)
-value_or none = Values.base 0
-value_or (some v) = v
+value_or None = Values.base 0
+value_or (Some v) = v
 
 -- the slots, or empty ones where the rule stops: for a blob that passes it does not
 abbrev pub slots_or : Option (Slots ℕ (List ℕ)) → Slots ℕ (List ℕ)
-slots_or none = record { bases = λ k. none; exts = λ k. none }
-slots_or (some m) = m
+slots_or None = record { bases = λ k. None; exts = λ k. None }
+slots_or (Some m) = m
 
 -- a frame is row 0 of as many rows as it has steps
 abbrev pub final_slots : Blob → Shape → Lent → Slots ℕ (List ℕ)
@@ -88,7 +95,7 @@ root_values b s l w = value_or (root_held (final_slots b s l) w)
 
 -- the promise: what is said; each root's value where it belongs; the check's bytes 0 once 2, 1 and 14 have passed; the slot
 -- room as it was after a refusal, and else the final slots
-pub record WalkAnswer (b : Blob) (s : Shape) (l : Lent) (r : Outcome) (base base' ext ext' marks marks' slots slots' : List ℕ) : Type 0 where
+pub record WalkAnswer (b : Blob) (s : Shape) (l : Lent) (r : Result (Unit {0}) Refusal) (base base' ext ext' marks marks' slots slots' : List ℕ) : Type 0 where
   pub said : said_of_outcome r ≡ first (walk_rows b s l (length marks) (length slots) (length base) (length ext)) (gives [])
   pub base_evals : base' ≡ cond (any_holds (walk_rows b s l (length marks) (length slots) (length base) (length ext))) base (base_evals_of (root_values b s l) b.roots (num_base_of b.counts) b.counts.roots base)
   pub ext_evals : ext' ≡ cond (any_holds (walk_rows b s l (length marks) (length slots) (length base) (length ext))) ext (ext_evals_of (root_values b s l) b.roots (num_base_of b.counts) b.counts.roots ext)

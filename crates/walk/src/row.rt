@@ -1,52 +1,29 @@
 // The walk of one row: it checks nothing and clears nothing. Slots that it fills hold the rule's values, others are kept.
-ghost use Rattle.std.specs.Prelude.{true, ◌≡◌, ◌+◌, ◌*◌, ◌≤◌, length};
-ghost use Rattle.values.specs.Frame.{lent};
-ghost use Rattle.blob_rules.specs.Blob.{instr_at};
+ghost use Rattle.std.specs.Prelude.{true, ◌≡◌, ◌≤◌, length};
+ghost use Rattle.values.specs.Frame.{lent_in};
+ghost use Rattle.blob_rules.specs.Blob.{instr_of, lent_blob};
 ghost use Rattle.blob_rules.specs.Check.{slot_in};
 ghost use Rattle.slots.specs.Slots.{slot_words};
-ghost use Rattle.slots.specs.Steps.{UniformsLong, NodeLegal, instr, OperationGives, LentLong, NodeGives, stored, StepStores, NodesLegal, RowWalked};
+ghost use Rattle.slots.specs.Steps.{UniformsLong, NodeLegal, OperationGives, LentLong, NodeGives, stored, StepStores, NodesLegal, RowWalked};
 
-use blob_rules::blob::{BlobCounts, is_ext, slot_of};
-use extension::extensions_goldilocks::Ext;
+use blob_rules::blob::{BlobCounts, BlobRef, NodeWords, is_ext, slot_of};
 use ir::frame::Shape;
 use ir::node::OP_ADD;
 use slots::arith::{base_arith, ext_arith};
 use slots::cell::Row;
 use slots::leaf::leaf;
-use values::value::{BASE, EXT, Value};
+use values::frame::Inputs;
+use values::value::Value;
 
 // An operation's value: base or extension, as its result word says.
-fn operation(
-    c: BlobCounts,
-    s: Shape,
-    op: u32,
-    a: u32,
-    b: u32,
-    res: u32,
-    offset: Ext,
-    bases: &[u64],
-    exts: &[u64],
-    challenges: &[u64],
-    alphas: &[u64],
-    slots: &[u64],
-) -> Value
-    requires { (6 ≤ op) × NodeLegal c s (instr op a b res) × UniformsLong c s (length bases.now) (length exts.now) (length challenges.now) (length alphas.now) × (slot_words c ≤ length slots.now) }
-    ensures { OperationGives c s bases.now exts.now challenges.now alphas.now offset.limbs slots.now (instr op a b res) result.class result.limbs.limbs }
+fn operation(c: BlobCounts, s: Shape, w: NodeWords, inputs: &Inputs, slots: &[u64]) -> Value
+    requires { (6 ≤ w.op) × NodeLegal c s (instr_of w) × UniformsLong c s (lent_in inputs.now) × (slot_words c ≤ length slots.now) }
+    ensures { OperationGives c s (lent_in inputs.now) slots.now (instr_of w) result.class result.limbs.limbs }
 {
-    if is_ext(res) {
-        Value {
-            class: EXT,
-            limbs: ext_arith(
-                c, s, op, a, b, offset, bases, exts, challenges, alphas, slots,
-            ),
-        }
+    if is_ext(w.res) {
+        Value::of_ext(ext_arith(c, s, w, inputs, slots))
     } else {
-        Value {
-            class: BASE,
-            limbs: Ext {
-                limbs: [base_arith(c, op, a, b, bases, slots), 0, 0],
-            },
-        }
+        Value::of_base(base_arith(c, w, inputs.bases, slots))
     }
 }
 
@@ -57,7 +34,7 @@ fn store(c: BlobCounts, res: u32, v: Value, slots: &mut [u64])
     let k = slot_of(res) as usize;
     let limbs = v.limbs;
     if is_ext(res) {
-        limbs.store(&mut slots[..], c.base_slots as usize + 3 * k);
+        limbs.store(slots, c.base_slots as usize + 3 * k);
     } else {
         slots[k] = limbs.limbs[0];
     }
@@ -68,110 +45,38 @@ fn node_value(
     c: BlobCounts,
     s: Shape,
     t: Row,
-    op: u32,
-    a: u32,
-    b: u32,
-    res: u32,
-    offset: Ext,
-    bases: &[u64],
-    exts: &[u64],
-    main: &[u64],
-    aux: &[u64],
-    challenges: &[u64],
-    alphas: &[u64],
+    w: NodeWords,
+    inputs: &Inputs,
     slots: &[u64],
 ) -> Value
-    requires { NodeLegal c s (instr op a b res) × LentLong c s t.rows t.row (lent bases.now exts.now main.now aux.now challenges.now alphas.now offset.limbs) × (slot_words c ≤ length slots.now) }
-    ensures { NodeGives c s t.rows t.row (lent bases.now exts.now main.now aux.now challenges.now alphas.now offset.limbs) slots.now (instr op a b res) result.class result.limbs.limbs }
+    requires { NodeLegal c s (instr_of w) × LentLong c s t.rows t.row (lent_in inputs.now) × (slot_words c ≤ length slots.now) }
+    ensures { NodeGives c s t.rows t.row (lent_in inputs.now) slots.now (instr_of w) result.class result.limbs.limbs }
 {
-    if op < OP_ADD {
-        leaf(
-            c, s, t, op, a, b, res, offset, bases, exts, main, aux, challenges, alphas,
-        )
+    if w.op < OP_ADD {
+        leaf(c, s, t, w, inputs)
     } else {
-        operation(
-            c, s, op, a, b, res, offset, bases, exts, challenges, alphas, slots,
-        )
+        operation(c, s, w, inputs, slots)
     }
 }
 
-// Node i: its value, into its slot.
-fn step(
-    i: usize,
-    c: BlobCounts,
-    s: Shape,
-    t: Row,
-    offset: Ext,
-    nodes: &[u32],
-    bases: &[u64],
-    exts: &[u64],
-    main: &[u64],
-    aux: &[u64],
-    challenges: &[u64],
-    alphas: &[u64],
-    slots: &mut [u64],
-)
-    requires { (4 * i + 4 ≤ length nodes.now) × NodeLegal c s (instr_at nodes.now i) × LentLong c s t.rows t.row (lent bases.now exts.now main.now aux.now challenges.now alphas.now offset.limbs) × (slot_words c ≤ length slots.old) }
-    ensures { StepStores c s t.rows t.row (lent bases.now exts.now main.now aux.now challenges.now alphas.now offset.limbs) (instr_at nodes.now i) slots.old slots.new }
+// A node: its value, into its slot.
+fn step(c: BlobCounts, s: Shape, t: Row, w: NodeWords, inputs: &Inputs, slots: &mut [u64])
+    requires { NodeLegal c s (instr_of w) × LentLong c s t.rows t.row (lent_in inputs.now) × (slot_words c ≤ length slots.old) }
+    ensures { StepStores c s t.rows t.row (lent_in inputs.now) (instr_of w) slots.old slots.new }
 {
-    let at = 4 * i;
-    let res = nodes[at + 3];
-    let v = node_value(
-        c,
-        s,
-        t,
-        nodes[at],
-        nodes[at + 1],
-        nodes[at + 2],
-        res,
-        offset,
-        bases,
-        exts,
-        main,
-        aux,
-        challenges,
-        alphas,
-        &slots[..],
-    );
-    store(c, res, v, &mut slots[..]);
+    let v = node_value(c, s, t, w, inputs, slots);
+    store(c, w.res, v, slots);
 }
 
 // Every node in order.
-pub fn walk_nodes(
-    c: BlobCounts,
-    s: Shape,
-    t: Row,
-    offset: Ext,
-    nodes: &[u32],
-    bases: &[u64],
-    exts: &[u64],
-    main: &[u64],
-    aux: &[u64],
-    challenges: &[u64],
-    alphas: &[u64],
-    slots: &mut [u64],
-)
-    requires { NodesLegal c s nodes.now × LentLong c s t.rows t.row (lent bases.now exts.now main.now aux.now challenges.now alphas.now offset.limbs) × (slot_words c ≤ length slots.old) }
-    ensures { RowWalked c s t.rows t.row (lent bases.now exts.now main.now aux.now challenges.now alphas.now offset.limbs) nodes.now c.nodes slots.old slots.new }
+pub fn walk_nodes(blob: &BlobRef, s: Shape, t: Row, inputs: &Inputs, slots: &mut [u64])
+    requires { NodesLegal (lent_blob blob.now) s × LentLong blob.now.counts s t.rows t.row (lent_in inputs.now) × (slot_words blob.now.counts ≤ length slots.old) }
+    ensures { RowWalked (lent_blob blob.now) s t.rows t.row (lent_in inputs.now) blob.now.counts.nodes slots.old slots.new }
 {
+    let c = blob.counts;
     let n = c.nodes as usize;
-    let mut i: usize = 0;
-    while i < n {
-        step(
-            i,
-            c,
-            s,
-            t,
-            offset,
-            nodes,
-            bases,
-            exts,
-            main,
-            aux,
-            challenges,
-            alphas,
-            &mut slots[..],
-        );
-        i += 1;
+    for i in 0..n {
+        let w = NodeWords::at(blob.nodes, i);
+        step(c, s, t, w, inputs, slots);
     }
 }

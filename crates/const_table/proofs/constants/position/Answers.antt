@@ -1,24 +1,14 @@
-use native.Mathlib.Omega.{arith}
-use Rattle.const_table.specs.Positions.{position_of}
 use Rattle.const_table.proofs.PositionLaws.{scanning_start, scanning_more, scanning_here, scanning_end}
 use Rattle.const_table.proofs.constants.position.Goals as goal
 
-pub loop-i-init : goal.loop-i-init
-loop-i-init c = scanning_start _ _
+pub loop-j-init : goal.loop-j-init
+loop-j-init g c = scanning_start _ _
 
-pub bounds-bases-i : goal.bounds-bases-i
-bounds-bases-i c = omega arith
+pub returns-then-is_at : goal.returns-then-is_at
+returns-then-is_at g c = scanning_here _ _ _ c.loop-j.invariant _ c.loop-j-test.true c.is_at.ensures c.if-is_at.true
 
-pub returns-then-same_value : goal.returns-then-same_value
-unfolding position_of
-returns-then-same_value c = scanning_here _ _ _ c.loop-i.invariant _ c.loop-i-test.true c.same_value.ensures c.if-same_value.true
-
-pub loop-i-smaller : goal.loop-i-smaller
-loop-i-smaller c = omega arith
-
-pub loop-i-preserved : goal.loop-i-preserved
-loop-i-preserved c = scanning_more _ _ _ c.loop-i.invariant _ c.loop-i-test.true c.same_value.ensures c.if-same_value.false
+pub loop-j-preserved : goal.loop-j-preserved
+loop-j-preserved g c = scanning_more _ _ _ c.loop-j.invariant _ c.loop-j-test.true c.is_at.ensures c.if-is_at.false
 
 pub returns : goal.returns
-unfolding position_of
-returns c = scanning_end _ _ _ c.loop-i.invariant c.loop-i-test.false
+returns g c = scanning_end _ _ _ c.loop-j.invariant c.loop-j-test.false

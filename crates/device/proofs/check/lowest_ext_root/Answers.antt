@@ -7,18 +7,18 @@ use Rattle.device.proofs.check.lowest_ext_root.Invariants.{bad}
 use Rattle.device.proofs.check.lowest_ext_root.Goals as goal
 
 pub loop-i-init : goal.loop-i-init
-loop-i-init c = (omega arith, lowest_start _)
+loop-i-init c = lowest_start _
 
 pub bounds-roots-i : goal.bounds-roots-i
-bounds-roots-i c = omega (arith, c.requires, c.loop-i-test.true)
+bounds-roots-i c = omega (arith, c.requires)
 
-pub returns-then-both : goal.returns-then-both
+pub returns-then-i-leading : goal.returns-then-i-leading
 unfolding ext_root
-returns-then-both c = let l = c.loop-i in let a = c.args in sym (lowest_stays (bad a.c.num_base a.roots.now) (l.i + 1) (omega (arith, c.loop-i-test.true)) (lowest_at _ l.i l.invariant.1 (rw (c.both.ensures, c.is_ext.ensures) at c.if-both.true)))
+returns-then-i-leading c = let l = c.loop-i in let a = c.args in sym (lowest_stays (bad a.c.num_base a.roots.now) (l.i + 1) (omega arith) (lowest_at _ l.i l.invariant (rw c.is_ext.ensures at c.if-i-leading.true)))
 
 pub loop-i-preserved : goal.loop-i-preserved
-loop-i-preserved c = let l = c.loop-i in (omega (arith, c.loop-i-test.true), lowest_on _ l.i l.invariant.1 (rw (c.both.ensures, c.is_ext.ensures) at c.if-both.false))
+loop-i-preserved c = let l = c.loop-i in lowest_on _ l.i l.invariant (rw c.is_ext.ensures at c.if-i-leading.false)
 
 pub returns : goal.returns
 unfolding ext_root
-returns c = let l = c.loop-i in let e : l.i ≡ c.args.c.roots = omega (arith, c.loop-i-test.false, l.invariant.0) in sym (rw e at l.invariant.1)
+returns c = let l = c.loop-i in let e : l.i ≡ c.args.c.roots = omega arith in sym (rw e at l.invariant)

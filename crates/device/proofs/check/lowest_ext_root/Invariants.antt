@@ -1,9 +1,9 @@
 -- `lowest_ext_root` meets its contract: no root below i is one.
 -- Assumes nothing.
-use Prim.Native.Nat.{ℕ, ◌≤◌, ◌-◌}
+use Prim.Native.Nat.{ℕ}
 use mathlib.Core.Path.{◌≡◌}
 use mathlib.Core.Bool.{Bool, ◌&&◌}
-use mathlib.Core.Option.{none}
+use Rattle.std.specs.Prelude.{None}
 use mathlib.Core.List.{List}
 use lib.ListN.{get_or}
 use Rattle.laws.specs.Folds.{lowest}
@@ -15,7 +15,4 @@ abbrev pub bad : ℕ → List ℕ → ℕ → Bool
 bad leading roots k = ltb k leading && is_ext (get_or roots k 0)
 
 abbrev pub invariant-loop-i : goal.invariant-loop-i
-invariant-loop-i l = (l.i ≤ l.count) × (lowest (bad l.leading l.roots) l.i ≡ none)
-
-abbrev pub decreases-loop-i : goal.decreases-loop-i
-decreases-loop-i l = l.count - l.i
+invariant-loop-i l = lowest (bad l.leading l.roots) l.i ≡ None

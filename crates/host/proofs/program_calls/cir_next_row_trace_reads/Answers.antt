@@ -3,10 +3,10 @@
 use Rattle.host.proofs.ProgramCallLaws.{reads_called, reads_rejected}
 use Rattle.host.proofs.program_calls.cir_next_row_trace_reads.Goals as goal
 
-pub returns-in-Listed : goal.returns-in-Listed
-returns-in-Listed c =
-    reads_called (rw c.counts_of-c.ensures at c.next_row_trace_reads.ensures) c.in-Listed.is
+pub returns-in-Ok : goal.returns-in-Ok
+returns-in-Ok c =
+    reads_called (rw c.counts_of-c.ensures at c.next_row_trace_reads.ensures) c.in-Ok.is
 
-pub returns-in-Refused : goal.returns-in-Refused
-returns-in-Refused c =
-    reads_rejected (rw c.counts_of-c.ensures at c.next_row_trace_reads.ensures) c.in-Refused.is c.coded_refusal.ensures
+pub returns-in-Err : goal.returns-in-Err
+returns-in-Err c =
+    reads_rejected (rw c.counts_of-c.ensures at c.next_row_trace_reads.ensures) c.in-Err.is c.coded_refusal.ensures

@@ -2,8 +2,8 @@
 -- Assumes nothing.
 use Rattle.host_answer.proofs.answer.coded_outcome.Goals as goal
 
-pub returns-in-Done : goal.returns-in-Done
-returns-in-Done c = rw c.in-Done.is
+pub returns-in-Ok : goal.returns-in-Ok
+returns-in-Ok c = rw c.in-Ok.is
 
-pub returns-in-Refused : goal.returns-in-Refused
-returns-in-Refused c = rw c.in-Refused.is c.coded_refusal.ensures
+pub returns-in-Err : goal.returns-in-Err
+returns-in-Err c = rw c.in-Err.is c.coded_refusal.ensures

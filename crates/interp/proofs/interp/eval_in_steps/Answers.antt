@@ -1,8 +1,9 @@
 -- `eval_in_steps` meets its contract.
 -- Assumes nothing.
+use Rattle.std.proofs.lemmas.Result.{err_from_is_err_and}
 use Rattle.interp.proofs.AnswerLaws.{answer_refused, answer_done, prover_ok, prover_asked}
 use Rattle.evaluation.specs.Evaluation.{prover_rows, lengths}
-use Rattle.values.specs.Frame.{lent, frame_limits}
+use Rattle.values.specs.Frame.{lent_in, frame_limits}
 use Rattle.ir.proofs.RefusalLaws.{done_rows}
 use lib.ListN.{length}
 use mathlib.Core.Path.{refl}
@@ -11,21 +12,23 @@ use Rattle.interp.proofs.interp.eval_in_steps.Goals as goal
 pub evaluate-requires : goal.evaluate-requires
 evaluate-requires c =
     let a = c.args in
-    let l = lent a.bases.now a.exts.now a.main.now a.aux.now a.challenges.now a.alphas.now a.offset.limbs in
+    let l = lent_in a.inputs.now in
     let k = lengths a.nodes.now a.roots.now l a.room.now in
     let m = frame_limits a.s in
-    prover_asked a.c a.s a.nodes.now a.roots.now l a.base.now a.ext.now a.room.now
+    rw c.strides.ensures
+    (prover_asked a.c a.s a.nodes.now a.roots.now l a.base.now a.ext.now a.room.now
     (prover_ok a.c a.s k (length a.base.now) (length a.ext.now) m a.nodes.now a.roots.now
-    (done_rows (prover_rows a.c a.s k (length a.base.now) (length a.ext.now) m a.nodes.now a.roots.now) refl c.in-Done.is c.prover_refusal.ensures))
+    (done_rows (prover_rows a.c a.s k (length a.base.now) (length a.ext.now) m a.nodes.now a.roots.now) refl c.in_ok-prover_refusal.was (rw c.lengths-l.ensures at c.prover_refusal.ensures))))
 
-pub returns-in-Refused : goal.returns-in-Refused
-returns-in-Refused c =
+pub returns-in_err-prover_refusal : goal.returns-in_err-prover_refusal
+returns-in_err-prover_refusal c =
     let a = c.args in
-    let l = lent a.bases.now a.exts.now a.main.now a.aux.now a.challenges.now a.alphas.now a.offset.limbs in
-    answer_refused (prover_rows a.c a.s (lengths a.nodes.now a.roots.now l a.room.now) (length a.base.now) (length a.ext.now) (frame_limits a.s) a.nodes.now a.roots.now) c.prover_refusal.ensures c.in-Refused.is
+    let k = lengths a.nodes.now a.roots.now (lent_in a.inputs.now) a.room.now in
+    let p = err_from_is_err_and c.from_residual.result c.from_residual.ensures.1 in
+    rw (p.1, p.2) (answer_refused (prover_rows a.c a.s k (length a.base.now) (length a.ext.now) (frame_limits a.s) a.nodes.now a.roots.now) (rw c.lengths-l.ensures at c.prover_refusal.ensures) c.in_err-prover_refusal.was)
 
-pub returns-in-Done : goal.returns-in-Done
-returns-in-Done c =
+pub returns : goal.returns
+returns c =
     let a = c.args in
-    let l = lent a.bases.now a.exts.now a.main.now a.aux.now a.challenges.now a.alphas.now a.offset.limbs in
-    answer_done (prover_rows a.c a.s (lengths a.nodes.now a.roots.now l a.room.now) (length a.base.now) (length a.ext.now) (frame_limits a.s) a.nodes.now a.roots.now) c.prover_refusal.ensures refl c.in-Done.is c.evaluate.ensures
+    let k = lengths a.nodes.now a.roots.now (lent_in a.inputs.now) a.room.now in
+    answer_done (prover_rows a.c a.s k (length a.base.now) (length a.ext.now) (frame_limits a.s) a.nodes.now a.roots.now) (rw c.lengths-l.ensures at c.prover_refusal.ensures) refl c.in_ok-prover_refusal.was (rw c.strides.ensures at c.evaluate.ensures)

@@ -23,10 +23,10 @@ returns-then-short_tables c = rw (← c.too_many_nodes.ensures, c.if-too_many_no
 pub ill_formed-requires : goal.ill_formed-requires
 ill_formed-requires c = let l = long _ _ _ _ _ (sym c.short_tables.ensures ∙ c.if-short_tables.false) in (l.nodes_long, l.roots_long)
 
-pub returns-in-At : goal.returns-in-At
+pub returns-in-Some : goal.returns-in-Some
 unfolding checked
-returns-in-At c = rw (← c.too_many_nodes.ensures, c.if-too_many_nodes.false, ← c.too_many_roots.ensures, c.if-too_many_roots.false, ← c.short_tables.ensures, c.if-short_tables.false, ← c.ill_formed.ensures, c.in-At.is)
+returns-in-Some c = rw (← c.too_many_nodes.ensures, c.if-too_many_nodes.false, ← c.too_many_roots.ensures, c.if-too_many_roots.false, ← c.short_tables.ensures, c.if-short_tables.false, ← c.ill_formed.ensures, c.in-Some.is)
 
-pub returns-in-Nowhere : goal.returns-in-Nowhere
+pub returns-in-None : goal.returns-in-None
 unfolding checked
-returns-in-Nowhere c = rw (← c.too_many_nodes.ensures, c.if-too_many_nodes.false, ← c.too_many_roots.ensures, c.if-too_many_roots.false, ← c.short_tables.ensures, c.if-short_tables.false, ← c.ill_formed.ensures, c.in-Nowhere.is)
+returns-in-None c = rw (← c.too_many_nodes.ensures, c.if-too_many_nodes.false, ← c.too_many_roots.ensures, c.if-too_many_roots.false, ← c.short_tables.ensures, c.if-short_tables.false, ← c.ill_formed.ensures, c.in-None.is)

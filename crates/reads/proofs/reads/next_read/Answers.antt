@@ -15,6 +15,6 @@ returns-then-is_later c =
     let column = rw c.unpack_var-v.ensures at c.column_in.ensures in
     rw (c.if-nodes-at-ne-OP_VAR.false, ← later, c.if-is_later.true, column)
 
-pub returns : goal.returns
+pub returns-else-is_later : goal.returns-else-is_later
 unfolding reads_next
-returns c = let later = rw c.unpack_var-v.ensures at c.is_later.ensures in rw (c.if-nodes-at-ne-OP_VAR.false, ← later, c.if-is_later.false)
+returns-else-is_later c = let later = rw c.unpack_var-v.ensures at c.is_later.ensures in rw (c.if-nodes-at-ne-OP_VAR.false, ← later, c.if-is_later.false)

@@ -19,9 +19,6 @@ pub returns-then-width-gt-MOST_COLUMNS : goal.returns-then-width-gt-MOST_COLUMNS
 unfolding reads_said
 returns-then-width-gt-MOST_COLUMNS c = answer_refused _ _ _ _ refl (rw (← c.too_many_nodes.ensures, c.if-too_many_nodes.false, ← c.too_many_roots.ensures, c.if-too_many_roots.false, lt-ltb _ _ c.if-width-gt-MOST_COLUMNS.true))
 
-pub short_tables-requires : goal.short_tables-requires
-short_tables-requires c = sym c.too_many_nodes.ensures ∙ c.if-too_many_nodes.false
-
 pub returns-then-short_tables : goal.returns-then-short_tables
 unfolding reads_said
 returns-then-short_tables c = answer_refused _ _ _ _ refl (rw (← c.too_many_nodes.ensures, c.if-too_many_nodes.false, ← c.too_many_roots.ensures, c.if-too_many_roots.false, le-ltb _ _ c.if-width-gt-MOST_COLUMNS.false, ← c.short_tables.ensures, c.if-short_tables.true))
@@ -29,12 +26,12 @@ returns-then-short_tables c = answer_refused _ _ _ _ refl (rw (← c.too_many_no
 pub ill_formed-requires : goal.ill_formed-requires
 ill_formed-requires c = let l = long _ _ _ _ _ (sym c.short_tables.ensures ∙ c.if-short_tables.false) in (l.nodes_long, l.roots_long)
 
-pub returns-in-At : goal.returns-in-At
+pub returns-in-Some : goal.returns-in-Some
 unfolding reads_said
-returns-in-At c = answer_refused _ _ _ _ refl (rw (← c.too_many_nodes.ensures, c.if-too_many_nodes.false, ← c.too_many_roots.ensures, c.if-too_many_roots.false, le-ltb _ _ c.if-width-gt-MOST_COLUMNS.false, ← c.short_tables.ensures, c.if-short_tables.false, ← c.ill_formed.ensures, c.in-At.is))
+returns-in-Some c = answer_refused _ _ _ _ refl (rw (← c.too_many_nodes.ensures, c.if-too_many_nodes.false, ← c.too_many_roots.ensures, c.if-too_many_roots.false, le-ltb _ _ c.if-width-gt-MOST_COLUMNS.false, ← c.short_tables.ensures, c.if-short_tables.false, ← c.ill_formed.ensures, c.in-Some.is))
 
 pub list_columns-requires : goal.list_columns-requires
-list_columns-requires c = let l = long _ _ _ _ _ (sym c.short_tables.ensures ∙ c.if-short_tables.false) in (l.nodes_long, c.if-width-gt-MOST_COLUMNS.false)
+list_columns-requires c = let l = long _ _ _ _ _ (sym c.short_tables.ensures ∙ c.if-short_tables.false) in l.nodes_long
 
 pub returns : goal.returns
 unfolding reads_said

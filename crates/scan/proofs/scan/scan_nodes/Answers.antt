@@ -1,26 +1,19 @@
-use mathlib.Core.Path.{refl, ◌∙◌, ◌≡◌}
-use Rattle.scan.proofs.ReadyLaws.{begins, ready, scanned_more, out_long}
-use native.Mathlib.Omega.{arith}
-use lib.ListN.{length}
+use Rattle.scan.proofs.ReadyLaws.{begins, ready, scanned_more}
+use mathlib.Core.Path.{refl, ◌∙◌}
 use Rattle.scan.proofs.scan.scan_nodes.Goals as goal
 
 pub loop-i-init : goal.loop-i-init
-loop-i-init c = let a = c.args in (omega arith, refl, begins a.nodes.now a.emitted.now a.last_use.now a.is_root.now a.slot_of.now a.free.now a.out.now c.requires)
+loop-i-init c = record { long = refl; same = (refl, refl, refl); scanned = begins _ _ _ _ _ _ _ c.requires }
 
-pub step-place-requires : goal.step-place-requires
-step-place-requires c = let a = c.args in let l = c.loop-i in ready a.nodes.now a.emitted.now a.last_use.now a.is_root.now a.slot_of.now a.free.now a.out.now c.requires l.i l.slot_of l.free l.place.pools.tops l.place.pools.nexts l.out l.place.count l.invariant.2 l.invariant.1 c.loop-i-test.true
+pub step-requires : goal.step-requires
+step-requires c = let l = c.loop-i.invariant in ready _ _ _ _ _ _ _ c.requires _ _ _ _ _ _ _ l.scanned l.long c.loop-i-test.true
 
 pub loop-i-preserved : goal.loop-i-preserved
-loop-i-preserved c = let a = c.args in let l = c.loop-i in let m = c.step-place.ensures in (omega (arith, c.loop-i-test.true), m.stands.slot_long ∙ l.invariant.1, scanned_more a.nodes.now a.emitted.now a.last_use.now a.is_root.now a.slot_of.now a.free.now a.out.now c.requires l.i l.slot_of l.free l.place.pools.tops l.place.pools.nexts l.out l.place.count l.invariant.2 l.invariant.1 _ _ _ _ _ _ m)
-
-pub shape_of-slot_of : goal.shape_of-slot_of
-shape_of-slot_of c = c.loop-i.invariant.1
-
-pub shape_of-free : goal.shape_of-free
-shape_of-free c = let l = c.loop-i in omega (arith, l.invariant.2.stands.free_long, l.invariant.1, c.requires.free_long)
-
-pub shape_of-out : goal.shape_of-out
-shape_of-out c = let a = c.args in let l = c.loop-i in out_long a.nodes.now a.emitted.now a.last_use.now a.is_root.now a.slot_of.now a.free.now a.out.now c.requires l.i l.slot_of l.free l.place.pools.tops l.place.pools.nexts l.out l.place.count l.invariant.2 l.invariant.1 l.invariant.0
-
-pub returns : goal.returns
-returns c = let l = c.loop-i in let e : l.i ≡ length c.args.slot_of.now = omega (arith, c.loop-i-test.false, l.invariant.0) in record { scanned = rw e at l.invariant.2; slot_of_len_unchanged = l.invariant.1 }
+loop-i-preserved c =
+    let l = c.loop-i.invariant in
+    let m = c.step.ensures in
+    record {
+      long = m.advanced.stands.slot_long ∙ l.long;
+      same = (m.same_lists.0 ∙ l.same.0, m.same_lists.1 ∙ l.same.1, m.same_lists.2 ∙ l.same.2);
+      scanned = scanned_more _ _ _ _ _ _ _ c.requires _ _ _ _ _ _ _ l.scanned l.long _ _ _ _ _ _ m.advanced;
+    }

@@ -1,16 +1,12 @@
-use Rattle.scan_parts.proofs.SpellLaws.{four_sets}
-use lib.ListN.{length-set}
+use Rattle.scan_parts.proofs.SpellLaws.{overwritten}
 use native.Mathlib.Omega.{arith}
+use Prim.Native.Nat.{◌+◌, ◌-◌, ◌*◌}
+use mathlib.Core.List.{[], ◌∷◌}
+use mathlib.Core.Path.{◌≡◌}
 use Rattle.scan_parts.proofs.spelling.put.Goals as goal
 
-pub bounds-out-first-2 : goal.bounds-out-first-2
-bounds-out-first-2 c = let a = c.args in rw (length-set a.out.now _ a.w.op) (omega (arith, c.requires))
-
-pub bounds-out-first-3 : goal.bounds-out-first-3
-bounds-out-first-3 c = let a = c.args in simp length-set (omega (arith, c.requires))
-
-pub bounds-out-first-4 : goal.bounds-out-first-4
-bounds-out-first-4 c = let a = c.args in simp length-set (omega (arith, c.requires))
-
 pub returns : goal.returns
-returns c = let a = c.args in four_sets a.out.now _ a.w.op a.w.a a.w.b a.res
+returns c =
+    let a = c.args in
+    let e : 4 * a.k + 4 - 4 * a.k ≡ 4 = omega arith in
+    rw (e, c.copy_from_slice.ensures.after) (overwritten (a.w.op ∷ a.w.a ∷ a.w.b ∷ a.res ∷ []) a.out.now (4 * a.k) c.requires)

@@ -1,24 +1,19 @@
-use mathlib.Core.Path.{◌≡◌, refl}
-use lib.ListN.{drop}
-use native.Mathlib.Omega.{arith}
-use Rattle.stored_parts.specs.Form.{words}
-use Rattle.stored_parts.proofs.WordLaws.{words_set, sets_long}
+use Rattle.std.proofs.Common.{◌∙◌, ◌≡◌, length, arith}
+use Rattle.stored_parts.proofs.WordLaws.{number_set, numbers_long, words_set, words_read}
 use Rattle.stored_parts.proofs.reading.read_words.Goals as goal
 
-pub loop-i-init : goal.loop-i-init
-loop-i-init c = (omega arith, refl)
-
-pub offset_bounds-to-i : goal.offset_bounds-to-i
-offset_bounds-to-i c = omega (arith, c.loop-i-test.true, c.requires.0)
-
-pub bounds-to-i : goal.bounds-to-i
-bounds-to-i c = let a = c.args in let l = c.loop-i in let q = sets_long a.to.now 0 (words 4 l.i (drop a.at a.file.now)) l.invariant.1 in omega (arith, q, c.loop-i-test.true, c.requires.1)
-
 pub loop-i-preserved : goal.loop-i-preserved
-loop-i-preserved c = (omega (arith, c.loop-i-test.true), words_set 4 c.args.file.now c.args.at c.args.to.now c.loop-i.i c.u32_at.result c.u32_at.ensures c.loop-i.invariant.1)
-
-pub shape_of-to : goal.shape_of-to
-shape_of-to c = let a = c.args in let l = c.loop-i in sets_long a.to.now 0 (words 4 l.i (drop a.at a.file.now)) l.invariant.1
+loop-i-preserved g c =
+    let w = g.W.Word in
+    let l = c.loop-i in
+    let read = rw c.BYTES.ensures at c.read_at.ensures in
+    number_set w.number w.numbers g.met.W.Word.one_by_one l.to l.i c.read_at.result
+    ∙ words_set w.BYTES c.args.bytes.now (w.numbers c.args.to.now) l.i (w.number c.read_at.result) read l.invariant
 
 pub returns : goal.returns
-returns c = let e : c.loop-i.i ≡ c.args.count = omega (arith, c.loop-i-test.false, c.loop-i.invariant.0) in rw e at c.loop-i.invariant.1
+returns g c =
+    let w = g.W.Word in
+    let to = c.args.to.now in
+    let long : length (w.numbers to) ≡ length to = numbers_long w.number w.numbers g.met.W.Word.one_by_one to in
+    let all : length (w.numbers to) ≡ c.loop-i.i = omega (arith, long) in
+    rw long at (words_read w.BYTES c.args.bytes.now (w.numbers to) c.loop-i.i all c.loop-i.invariant)

@@ -1,14 +1,9 @@
 -- `write_constants` meets its contract.
 -- Assumes nothing.
-use Prim.Native.Nat.{◌≤◌, ◌-◌}
-use mathlib.Core.Path.{◌≡◌}
-use lib.Seq.{sets}
-use lib.ListN.{take}
+use Rattle.std.proofs.Common.{◌≡◌, take}
+use Rattle.std.proofs.lemmas.List.Edits.{sets}
 use Rattle.stored_parts.specs.Form.{spread, below_p}
 use Rattle.stored_parts.proofs.writing.write_constants.Given as goal
 
 abbrev pub invariant-loop-i : goal.invariant-loop-i
-invariant-loop-i l = (l.i ≤ l.count) × (l.out ≡ sets l.initial.out l.at (spread 8 (take l.i (below_p l.words))))
-
-abbrev pub decreases-loop-i : goal.decreases-loop-i
-decreases-loop-i l = l.count - l.i
+invariant-loop-i l = l.out ≡ sets l.initial.out 0 (spread 8 (take l.i (below_p l.words)))

@@ -1,21 +1,14 @@
-use Rattle.stored_parts.proofs.WordLaws.{spread_set, sets_long}
-use mathlib.Core.Path.{◌≡◌, refl}
-use lib.ListN.{take}
-use native.Mathlib.Omega.{arith}
-use Rattle.stored_parts.specs.Form.{spread}
+use Rattle.std.proofs.Common.{◌<◌, length, arith}
+use Rattle.stored_parts.proofs.WordLaws.{number_at, numbers_long, spread_set}
 use Rattle.stored_parts.proofs.writing.write_words.Goals as goal
 
-pub loop-i-init : goal.loop-i-init
-loop-i-init c = (omega arith, refl)
-
-pub put_u32-requires : goal.put_u32-requires
-put_u32-requires c = let a = c.args in let l = c.loop-i in let q = sets_long a.out.now a.at (spread 4 (take l.i a.words.now)) l.invariant.1 in omega (arith, q, c.loop-i-test.true, c.requires.0)
-
 pub loop-i-preserved : goal.loop-i-preserved
-loop-i-preserved c = (omega (arith, c.loop-i-test.true), spread_set 4 c.args.out.now c.args.at c.args.words.now c.loop-i.i (omega (arith, c.loop-i-test.true, c.requires.1)) c.loop-i.invariant.1 c.put_u32.ensures)
-
-pub shape_of-out : goal.shape_of-out
-shape_of-out c = let a = c.args in let l = c.loop-i in sets_long a.out.now a.at (spread 4 (take l.i a.words.now)) l.invariant.1
-
-pub returns : goal.returns
-returns c = let e : c.loop-i.i ≡ c.args.count = omega (arith, c.loop-i-test.false, c.loop-i.invariant.0) in rw e at c.loop-i.invariant.1
+loop-i-preserved g c =
+    let w = g.W.Word in
+    let i = c.loop-i.i in
+    let words = c.args.words.now in
+    let each = g.met.W.Word.one_by_one in
+    let inside : i < length words = omega arith in
+    let same = number_at w.number w.numbers each words i inside c.index-words-i.is in
+    let longer : i < length (w.numbers words) = rw (numbers_long w.number w.numbers each words) inside in
+    spread_set w.BYTES c.args.out.now (w.numbers words) i longer c.loop-i.invariant (rw (c.BYTES.ensures, same) at c.write_at.ensures)

@@ -3,19 +3,8 @@
 use Rattle.trial_parts.proofs.TrialLaws.{const_fits}
 use Rattle.values.proofs.ValueLaws.{base_is}
 use Rattle.field.proofs.Laws.{reduced, least_stands}
-use Rattle.laws.proofs.Tests.{clash}
 use mathlib.Core.List.{[], ◌∷◌}
-use mathlib.Core.Path.{refl}
 use Rattle.trial.proofs.step.step_const.Goals as goal
-
-pub returns-then-y-ne0 : goal.returns-then-y-ne0
-returns-then-y-ne0 c = λ e. clash e refl
-
-pub returns-then-dim-ne-DIM_BASE : goal.returns-then-dim-ne-DIM_BASE
-returns-then-dim-ne-DIM_BASE c = λ e. clash e refl
-
-pub returns-then-c-place : goal.returns-then-c-place
-returns-then-c-place c = λ e. clash e refl
 
 pub returns : goal.returns
 returns c = let a = c.args in let d = c.if-dim-ne-DIM_BASE.false in λ e. (const_fits a.c a.m c.requires.0 a.x a.y a.dim c.if-y-ne0.false d c.if-c-place.false, rw d (record { limbs = _ ∷ 0 ∷ 0 ∷ []; value_is = base_is (least_stands c.reduce-v.ensures reduced); stored = c.put_base.ensures }))

@@ -4,24 +4,10 @@ use Rattle.trial_parts.proofs.TrialLaws.{ext_fits}
 use Rattle.trial_parts.proofs.StepLaws.{ext_class, entry_in}
 use Rattle.trial_parts.specs.Trial.{leaf_limit}
 use Prim.Native.Nat.{◌<◌}
-use Rattle.laws.proofs.Tests.{clash}
-use mathlib.Core.Path.{refl}
 use Rattle.trial.proofs.step.step_entry.Goals as goal
-
-pub returns-then-y-ne0 : goal.returns-then-y-ne0
-returns-then-y-ne0 c = λ e. clash e refl
-
-pub returns-then-dim-ne-DIM_EXT : goal.returns-then-dim-ne-DIM_EXT
-returns-then-dim-ne-DIM_EXT c = λ e. clash e refl
-
-pub returns-then-leaf_limit-place : goal.returns-then-leaf_limit-place
-returns-then-leaf_limit-place c = λ e. clash e refl
 
 pub entry-v-requires : goal.entry-v-requires
 entry-v-requires c = let a = c.args in entry_in a.c a.m a.tag a.x c.requires.1 c.requires.2 c.requires.3 (rw c.leaf_limit.ensures at c.if-leaf_limit-place.false)
-
-pub put_ext-requires : goal.put_ext-requires
-put_ext-requires c = c.requires.4
 
 pub returns : goal.returns
 returns c = let a = c.args in let d = c.if-dim-ne-DIM_EXT.false in let g : a.x < leaf_limit a.c a.m a.tag = rw c.leaf_limit.ensures at c.if-leaf_limit-place.false in λ e. (ext_fits a.c a.m c.requires.0 a.tag a.x a.y a.dim c.requires.6 c.requires.5 c.if-y-ne0.false d g, rw d (record { limbs = _; value_is = ext_class c.entry-v.ensures; stored = c.put_ext.ensures }))

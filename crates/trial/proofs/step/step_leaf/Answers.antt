@@ -1,10 +1,8 @@
 -- `step_leaf` meets its contract.
 -- Assumes nothing.
 use Rattle.values.specs.Values.{leaf_value}
-use Rattle.values.specs.Frame.{lent}
+use Rattle.values.specs.Frame.{lent_in}
 use Rattle.trial_parts.proofs.StepLaws.{leaf_entry}
-use Rattle.laws.proofs.Tests.{clash}
-use mathlib.Core.Path.{refl}
 use Rattle.trial.proofs.step.step_leaf.Goals as goal
 
 pub step_main-requires : goal.step_main-requires
@@ -14,25 +12,13 @@ pub returns-then-dim-eq-DIM_BASE : goal.returns-then-dim-eq-DIM_BASE
 unfolding leaf_value
 returns-then-dim-eq-DIM_BASE c = λ e. let h = c.step_main.ensures e in rw (c.if-tag-eq-OP_VAR.true, c.if-dim-eq-DIM_BASE.true) (h.0, rw (h.1, c.requires.1) h.2)
 
-pub returns-then-dim-ne-DIM_EXT : goal.returns-then-dim-ne-DIM_EXT
-returns-then-dim-ne-DIM_EXT c = λ e. clash e refl
-
-pub step_aux-requires : goal.step_aux-requires
-step_aux-requires c = let q = c.requires in (q.2, q.0.aux, q.3.long)
-
 pub returns-then-tag-eq-OP_VAR : goal.returns-then-tag-eq-OP_VAR
 unfolding leaf_value
 returns-then-tag-eq-OP_VAR c = λ e. let h = c.step_aux.ensures e in rw (c.if-tag-eq-OP_VAR.true, c.if-dim-ne-DIM_EXT.false) (h.0, rw h.1 h.2)
-
-pub step_const-requires : goal.step_const-requires
-step_const-requires c = let q = c.requires in (q.2, q.0.bases, q.3)
 
 pub returns-then-tag-eq-OP_CONST_BASE : goal.returns-then-tag-eq-OP_CONST_BASE
 unfolding leaf_value
 returns-then-tag-eq-OP_CONST_BASE c = λ e. rw c.if-tag-eq-OP_CONST_BASE.true (c.step_const.ensures e)
 
-pub step_entry-requires : goal.step_entry-requires
-step_entry-requires c = let q = c.requires in (q.2, q.0.exts, q.0.challenges, q.0.alphas, q.3.long, c.if-tag-eq-OP_CONST_BASE.false, c.if-tag-eq-OP_VAR.false)
-
 pub returns : goal.returns
-returns c = let a = c.args in λ e. rw (leaf_entry a.s (lent a.bases.now a.exts.now a.main.now a.aux.now a.challenges.now a.alphas.now a.offset.limbs) a.tag a.x a.y c.if-tag-eq-OP_CONST_BASE.false c.if-tag-eq-OP_VAR.false) (c.step_entry.ensures e)
+returns c = let a = c.args in λ e. rw (leaf_entry a.s (lent_in a.inputs.now) a.tag a.x a.y c.if-tag-eq-OP_CONST_BASE.false c.if-tag-eq-OP_VAR.false) (c.step_entry.ensures e)

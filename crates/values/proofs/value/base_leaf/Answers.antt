@@ -5,4 +5,4 @@ use Rattle.field.proofs.Laws.{reduced, least_stands}
 use Rattle.values.proofs.value.base_leaf.Goals as goal
 
 pub returns : goal.returns
-returns c = base_is (least_stands c.reduce.ensures reduced)
+returns c = rw c.of_base.ensures (base_is (least_stands c.reduce.ensures reduced))

@@ -5,4 +5,4 @@ use Rattle.extension.proofs.ExtLaws.{least_limbs, limbs_stand, remainders_near}
 use Rattle.values.proofs.value.offset_leaf.Goals as goal
 
 pub returns : goal.returns
-returns c = ext_is (limbs_stand (least_limbs c.reduce.ensures) (remainders_near 3 _))
+returns c = rw c.of_ext.ensures (ext_is (limbs_stand (least_limbs c.reduce.ensures) (remainders_near 3 _)))

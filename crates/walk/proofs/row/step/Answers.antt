@@ -1,6 +1,6 @@
 use Rattle.blob_rules.proofs.MarkLaws.{node_slot}
-use Rattle.blob_rules.specs.Blob.{instr_at, tags, kinds}
+use Rattle.blob_rules.specs.Blob.{instr_of, tags, kinds}
 use Rattle.walk.proofs.row.step.Goals as goal
 
 pub store-requires : goal.store-requires
-store-requires c = let a = c.args in let p = c.requires in (node_slot tags kinds a.c a.s p.1.filled (instr_at a.nodes.now a.i) p.1.ok, p.3)
+store-requires c = let a = c.args in let p = c.requires in (node_slot tags kinds a.c a.s p.0.filled (instr_of a.w) p.0.ok, p.2)

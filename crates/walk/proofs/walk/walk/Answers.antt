@@ -1,22 +1,39 @@
-use Rattle.walk.proofs.WalkLaws.{blob_of, room_ok, row_ready, legal_done, walk_refused, walk_illegal, walk_done}
-use Rattle.walk.specs.Walk.{memory_rows}
-use Rattle.values.specs.Frame.{lent}
-use Rattle.ir.proofs.RefusalLaws.{done_rows}
-use lib.ListN.{length}
+use Rattle.std.proofs.lemmas.Result.{err_from_is_err_and}
 use mathlib.Core.Path.{refl}
+use Rattle.ir.proofs.RefusalLaws.{done_rows}
+use Rattle.values.specs.Frame.{lent_in}
+use Rattle.blob_rules.specs.Blob.{lent_blob}
+use Rattle.walk.proofs.WalkLaws.{before, room_ok, row_ready, legal_done, walk_refused, walk_illegal, walk_done}
 use Rattle.walk.proofs.walk.walk.Goals as goal
 
+pub returns-in_err-memory_refusal : goal.returns-in_err-memory_refusal
+returns-in_err-memory_refusal c =
+    let a = c.args in
+    let e = err_from_is_err_and c.from_residual.result c.from_residual.ensures.1 in
+    rw (e.1, e.2) (walk_refused (lent_blob a.blob.now) a.s (lent_in a.inputs.now) a.base.now a.ext.now a.marks.now a.slots.now c.in_err-memory_refusal.was c.memory_refusal.ensures)
+
 pub legal_refusal-requires : goal.legal_refusal-requires
-legal_refusal-requires c = let a = c.args in let l = lent a.bases.now a.exts.now a.main.now a.aux.now a.challenges.now a.alphas.now a.offset.limbs in let blob = blob_of a.c a.nodes.now a.roots.now in let q = done_rows (memory_rows blob a.s l (length a.marks.now) (length a.slots.now) (length a.base.now) (length a.ext.now)) refl c.in-Done.is c.memory_refusal.ensures in let k = (room_ok blob a.s l (length a.marks.now) (length a.slots.now) (length a.base.now) (length a.ext.now) q).long.check_long in (k.nodes_long, k.roots_long, k.marks_long)
+legal_refusal-requires c =
+    let a = c.args in
+    let quiet = done_rows (before (lent_blob a.blob.now) a.s (lent_in a.inputs.now) a.base.now a.ext.now a.marks.now a.slots.now) refl c.in_ok-memory_refusal.was c.memory_refusal.ensures in
+    let k = (room_ok (lent_blob a.blob.now) a.s (lent_in a.inputs.now) _ _ _ _ quiet).long.check_long in
+    (k.nodes_long, k.roots_long, k.marks_long)
+
+pub returns-in_err-legal_refusal : goal.returns-in_err-legal_refusal
+returns-in_err-legal_refusal c =
+    let a = c.args in
+    let e = err_from_is_err_and c.from_residual-in_err-legal_refusal.result c.from_residual-in_err-legal_refusal.ensures.1 in
+    let quiet = done_rows (before (lent_blob a.blob.now) a.s (lent_in a.inputs.now) a.base.now a.ext.now a.marks.now a.slots.now) refl c.in_ok-memory_refusal.was c.memory_refusal.ensures in
+    rw (e.1, e.2) (walk_illegal (lent_blob a.blob.now) a.s (lent_in a.inputs.now) a.base.now a.ext.now a.marks.now a.slots.now quiet c.in_err-legal_refusal.was c.legal_refusal.ensures)
 
 pub walk_frame-requires : goal.walk_frame-requires
-walk_frame-requires c = let a = c.args in let l = lent a.bases.now a.exts.now a.main.now a.aux.now a.challenges.now a.alphas.now a.offset.limbs in let blob = blob_of a.c a.nodes.now a.roots.now in let q = done_rows (memory_rows blob a.s l (length a.marks.now) (length a.slots.now) (length a.base.now) (length a.ext.now)) refl c.in-Done.is c.memory_refusal.ensures in row_ready blob a.s l (length a.marks.now) (length a.slots.now) (length a.base.now) (length a.ext.now) (room_ok blob a.s l (length a.marks.now) (length a.slots.now) (length a.base.now) (length a.ext.now) q) (legal_done blob a.s l a.base.now a.ext.now a.marks.now a.slots.now q c.in-Done-legal_refusal.is c.legal_refusal.ensures)
+walk_frame-requires c =
+    let a = c.args in
+    let quiet = done_rows (before (lent_blob a.blob.now) a.s (lent_in a.inputs.now) a.base.now a.ext.now a.marks.now a.slots.now) refl c.in_ok-memory_refusal.was c.memory_refusal.ensures in
+    row_ready (lent_blob a.blob.now) a.s (lent_in a.inputs.now) _ _ _ _ (room_ok (lent_blob a.blob.now) a.s (lent_in a.inputs.now) _ _ _ _ quiet) (legal_done (lent_blob a.blob.now) a.s (lent_in a.inputs.now) a.base.now a.ext.now a.marks.now a.slots.now quiet c.in_ok-legal_refusal.was c.legal_refusal.ensures)
 
-pub returns-in-Refused : goal.returns-in-Refused
-returns-in-Refused c = let a = c.args in let l = lent a.bases.now a.exts.now a.main.now a.aux.now a.challenges.now a.alphas.now a.offset.limbs in let blob = blob_of a.c a.nodes.now a.roots.now in walk_refused blob a.s l a.base.now a.ext.now a.marks.now a.slots.now c.in-Refused.is c.memory_refusal.ensures
-
-pub returns-in-Refused-legal_refusal : goal.returns-in-Refused-legal_refusal
-returns-in-Refused-legal_refusal c = let a = c.args in let l = lent a.bases.now a.exts.now a.main.now a.aux.now a.challenges.now a.alphas.now a.offset.limbs in let blob = blob_of a.c a.nodes.now a.roots.now in let q = done_rows (memory_rows blob a.s l (length a.marks.now) (length a.slots.now) (length a.base.now) (length a.ext.now)) refl c.in-Done.is c.memory_refusal.ensures in walk_illegal blob a.s l a.base.now a.ext.now a.marks.now a.slots.now q c.in-Refused-legal_refusal.is c.legal_refusal.ensures
-
-pub returns-in-Done-legal_refusal : goal.returns-in-Done-legal_refusal
-returns-in-Done-legal_refusal c = let a = c.args in let l = lent a.bases.now a.exts.now a.main.now a.aux.now a.challenges.now a.alphas.now a.offset.limbs in let blob = blob_of a.c a.nodes.now a.roots.now in let q = done_rows (memory_rows blob a.s l (length a.marks.now) (length a.slots.now) (length a.base.now) (length a.ext.now)) refl c.in-Done.is c.memory_refusal.ensures in walk_done blob a.s l a.base.now a.ext.now a.marks.now a.slots.now q c.in-Done-legal_refusal.is c.legal_refusal.ensures c.walk_frame.ensures
+pub returns : goal.returns
+returns c =
+    let a = c.args in
+    let quiet = done_rows (before (lent_blob a.blob.now) a.s (lent_in a.inputs.now) a.base.now a.ext.now a.marks.now a.slots.now) refl c.in_ok-memory_refusal.was c.memory_refusal.ensures in
+    walk_done (lent_blob a.blob.now) a.s (lent_in a.inputs.now) a.base.now a.ext.now a.marks.now a.slots.now quiet c.in_ok-legal_refusal.was c.legal_refusal.ensures c.walk_frame.ensures

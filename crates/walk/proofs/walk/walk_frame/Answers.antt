@@ -1,9 +1,17 @@
-use Rattle.slots.specs.Slots.{slot_words}
-use Rattle.blob_rules.proofs.MarkLaws.{cleared_long}
+use Prim.Native.Nat.{◌≤◌}
+use lib.ListN.{length}
+use Rattle.blob_rules.proofs.MarkLaws.{cleared_long, filled_front}
 use Rattle.walk.proofs.walk.walk_frame.Goals as goal
 
 pub walk_row-requires : goal.walk_row-requires
-walk_row-requires c = let a = c.args in let p = c.requires in record { nodes_legal = p.nodes_legal; lent_long = p.lent_long; roots_ready = p.roots_ready; slots_long = rw (c.clear.ensures, cleared_long (slot_words a.c) a.slots.now p.slots_long) p.slots_long }
+walk_row-requires c =
+    let p = c.requires in
+    let long : c.slot_words-n.result ≤ length c.args.slots.now = rw c.slot_words-n.ensures p.slots_long in
+    let e = filled_front _ _ _ long (c.fill.ensures.after (λ y q. q)) in
+    record { nodes_legal = p.nodes_legal; lent_long = p.lent_long; roots_ready = p.roots_ready; slots_long = rw (e, cleared_long _ _ long) p.slots_long }
 
 pub returns : goal.returns
-returns c = record { done = rw (← c.clear.ensures) c.walk_row.ensures }
+returns c =
+    let long : c.slot_words-n.result ≤ length c.args.slots.now = rw c.slot_words-n.ensures c.requires.slots_long in
+    let e = filled_front _ _ _ long (c.fill.ensures.after (λ y q. q)) in
+    record { done = rw (e, c.slot_words-n.ensures) at c.walk_row.ensures }

@@ -7,4 +7,4 @@ use Rattle.builder.proofs.ConstLaws.{signed_gives}
 use Rattle.builder.proofs.ir_builder.IrBuilder.const_signed.Goals as goal
 
 pub returns : goal.returns
-returns c = let a = c.args in let h = c.from_i64-x.ensures in let k : Least (signed a.v) c.from_i64-x.result = rw (to_z-of_z c.ranges.v) at h in signed_gives _ a.bases.now a.self.bases _ _ _ _ _ _ _ (least_exact k) c.const_base.ensures
+returns c = let a = c.args in let h = c.from_i64.ensures in let k : Least (signed a.v) c.from_i64.result = rw (to_z-of_z c.ranges.v) at h in signed_gives _ a.bases.now a.self.bases _ _ _ _ _ _ _ (least_exact k) c.const_base.ensures

@@ -1,2 +1,0 @@
--- The laws of handles.
-pub mod HandleLaws

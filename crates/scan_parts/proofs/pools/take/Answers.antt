@@ -1,8 +1,0 @@
-use Rattle.scan_parts.proofs.PoolLaws.{takes_new, takes_last}
-use Rattle.scan_parts.proofs.pools.take.Goals as goal
-
-pub returns-then-top-eq0 : goal.returns-then-top-eq0
-returns-then-top-eq0 c = let a = c.args in takes_new a.class a.free.now a.pools.tops a.pools.nexts c.requires.known c.requires.pairs c.if-top-eq0.true
-
-pub returns : goal.returns
-returns c = let a = c.args in takes_last a.class a.free.now a.pools.tops a.pools.nexts c.requires.known c.requires.pairs c.if-top-eq0.false

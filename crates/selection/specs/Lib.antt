@@ -1,0 +1,2 @@
+-- The places of a list that pass a test.
+pub mod Places

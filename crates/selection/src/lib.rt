@@ -1,0 +1,4 @@
+// The places of a list that pass a test.
+#![tactic(auto)]
+
+pub mod places;
