@@ -198,7 +198,9 @@ uint64_t cir_builder_new(size_t *n, size_t *base_count, uint32_t *nodes, size_t 
                          size_t places_len, uint64_t *base_consts, size_t base_consts_len, uint32_t *id,
                          uint32_t *dim);
 
-/* a cell of the main trace, which is base, at a step and a column; else 1, 2 or 4 */
+/* a cell of the main trace, which is base, at a step and a column; else 1, 2 or 4. The step is a byte, as in
+ * the published builder, here and in the three calls below that take one: C cuts a greater number before the
+ * call sees it, so a caller with a wider one has to test it first. */
 uint64_t cir_builder_main(size_t *n, uint32_t *nodes, size_t nodes_len, uint32_t *places, size_t places_len,
                           uint8_t step, size_t column, uint32_t *id, uint32_t *dim);
 /* a cell of the aux trace, which is extension; else 1, 2 or 4 */
