@@ -6,8 +6,8 @@ use mathlib.Core.Path.{◌≡◌, sym, ap, ◌∙◌}
 use Prim.Native.Nat.{ℕ, ◌+◌, ◌≤◌}
 use native.Mathlib.Omega.{arith}
 use lib.Dec.{eqb}
-use lib.ListN.{length, take, drop, length-append}
-use lib.Seq.{sets, sets-eq, length-sets, take_at}
+use lib.ListN.{length, take, drop}
+use lib.Seq.{sets, sets-eq, take_at}
 use borrow.Author.Tests.{ltb-false}
 use Rattle.laws.proofs.Parts.{sets_after}
 use Rattle.ir.specs.Refusals.{Said}
@@ -36,10 +36,6 @@ module _ (n : ℕ) (l : Lent) {mid : List ℕ} (fits : whole n l.bytes ≤ lengt
     left_long : length vs ≡ k
     left_long = m ∙ ap length lent_words ∙ words_long n k l.bytes
 
-    -- the room stays as long
-    pub after_roomy : k ≤ length (vs ++ drop k mid)
-    after_roomy = rw (length-append vs (drop k mid)) (omega (arith, left_long))
-
     room_after : vs ++ drop k mid ≡ sets l.room 0 vs
     room_after =
         let w = words_long n k l.bytes in
@@ -47,9 +43,6 @@ module _ (n : ℕ) (l : Lent) {mid : List ℕ} (fits : whole n l.bytes ≤ lengt
         ap (λ (x : List ℕ). vs ++ drop k x) e
         ∙ ap (λ (x : List ℕ). vs ++ x) (sets_after (held n l) l.room 0 k (omega (arith, w)))
         ∙ sym (sets-eq vs l.room 0 (omega (arith, z, fits)) ∙ ap (λ (m : ℕ). take 0 l.room ++ vs ++ drop m l.room) z)
-
-    pub after_long : length (vs ++ drop k mid) ≡ length l.room
-    after_long = ap length room_after ∙ length-sets l.room 0 vs
 
     -- and the bytes take what it leaves
     pub packed_after : {out : List ℕ} {done : Bool} (s : Said) → done ≡ eqb s.number 0 → out ≡ cond done (sets l.bytes 0 (spread n (take k (vs ++ drop k mid)))) l.bytes → lent out (vs ++ drop k mid) ≡ packed_on n s vs l

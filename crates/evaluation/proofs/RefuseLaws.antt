@@ -1,11 +1,11 @@
 -- What the shared refusals let through.
 -- Assumes nothing.
-use mathlib.Core.Bool.{Bool, true, false, ◌&&◌, ◌||◌}
+use mathlib.Core.Bool.{Bool, true, false, ◌||◌}
 use mathlib.Core.Path.{◌≡◌, refl, sym, ap, ◌∙◌}
-use Prim.Native.Nat.{ℕ, ◌*◌, ◌<◌, ◌≤◌, min}
-use native.Mathlib.Nat.{mul-le-mul, le_of_lt, min-eq_left, min-eq_right}
+use Prim.Native.Nat.{ℕ, ◌*◌, ◌≤◌}
+use native.Mathlib.Nat.{mul-le-mul}
 use lib.Dec.{ltb}
-use borrow.Author.Tests.{ltb-false, lt-ltb, le-ltb}
+use borrow.Author.Tests.{ltb-false}
 use Rattle.laws.proofs.Tests.{or_left, or_right}
 use mathlib.Core.List.{List, [], ◌∷◌, ◌++◌}
 use Rattle.std.specs.Prelude.{None}
@@ -53,17 +53,6 @@ long_frame s limbs l h =
       challenges_long = ltb-false _ _ (or_right (a || b) c h₃);
       alphas_long = ltb-false _ _ (or_right (a || b || c) d h);
     }
-
--- 14, where some root is at or past num_base and where none is
-pub evals_mixed : (a b r x : ℕ) → a < r → (ltb b (min a r) || (ltb a r && ltb x (3 * r))) ≡ (ltb b a || ltb x (3 * r))
-evals_mixed a b r x h = rw (min-eq_left (le_of_lt h), lt-ltb a r h)
-
-pub evals_leading : (a b r x : ℕ) → r ≤ a → (ltb b (min a r) || (ltb a r && ltb x (3 * r))) ≡ ltb b r
-evals_leading a b r x h = rw (min-eq_right h, le-ltb a r h) (or_false (ltb b r))
-  where
-    or_false : (t : Bool) → (t || false) ≡ t
-    or_false true = refl
-    or_false false = refl
 
 -- ---- rows that do not hold
 

@@ -17,9 +17,6 @@ module _ (nodes : List ℕ) (i : ℕ) where
   abbrev pub w : Node
   w = node_at nodes i
 
-  pub operands_none : w.tag < 6 → operands w ≡ []
-  operands_none h = rw (lt-ltb w.tag 6 h) refl
-
   pub operands_two : 6 ≤ w.tag → w.tag < 9 → operands w ≡ w.x ∷ w.y ∷ []
   operands_two h k = rw (le-ltb w.tag 6 h, lt-ltb w.tag 9 k) refl
 

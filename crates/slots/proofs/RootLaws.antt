@@ -4,34 +4,25 @@ use mathlib.Core.Bool.{true, false, cond}
 use mathlib.Core.List.{List}
 use Rattle.std.specs.Prelude.{Option, None, Some}
 use mathlib.Core.Path.{◌≡◌, refl, ap, ◌∙◌}
-use Prim.Native.Nat.{ℕ, ◌+◌, ◌*◌, ◌<◌}
+use Prim.Native.Nat.{ℕ, ◌+◌, ◌*◌}
 use native.Mathlib.Numerals.{add-one}
 use native.Mathlib.Omega.{arith}
 use lib.Dec.{ltb}
 use lib.ListN.{get_or, set}
 use lib.Seq.{sets}
-use borrow.Author.Tests.{ltb-true}
 use Rattle.laws.specs.Options.{on1}
 use Rattle.laws.proofs.Folds.{none_some}
-use Rattle.laws.proofs.Tests.{and_left}
 use Rattle.extension.specs.Ext.{embedded, Limbs, LeastLimbs}
 use Rattle.extension.specs.Tower.{goldilocks, remainders}
 use Rattle.extension.proofs.ExtLaws.{near_trans, limbs_stand, limbs_exact, least_limbs, embedded_near, remainders_near}
 use Rattle.values.specs.Values.{Value, base, ext, to_ext}
 use Rattle.evaluation.specs.Evals.{base_word, ext_words, base_evals_of, ext_evals_of}
 use Rattle.blob_rules.specs.declared.blob.BlobCounts.{BlobCounts}
-use Rattle.blob_rules.specs.Blob.{Blob, base_slots_of, ext_slots_of, num_base_of, is_ext, slot_of}
+use Rattle.blob_rules.specs.Blob.{Blob, num_base_of, is_ext, slot_of}
 use Rattle.device.specs.StepRule.{Slots}
 use Rattle.slots.specs.Slots.{ext_word, limbs_at}
-use Rattle.slots.specs.Steps.{Holds, RootLegal, RootReads, RootWritten, RootsWritten}
+use Rattle.slots.specs.Steps.{Holds, RootReads, RootWritten, RootsWritten}
 use Rattle.std.proofs.lemmas.Option.{same_Some}
-
--- a root that the check let through names a slot that there is
-pub root_ext_in : (c : BlobCounts) (w : ℕ) → RootLegal c w → is_ext w ≡ true → slot_of w < ext_slots_of c
-root_ext_in c w h e = ltb-true (slot_of w) (ext_slots_of c) (and_left (ltb (slot_of w) (ext_slots_of c)) (h.filled.exts (slot_of w)) (rw e at h.ok))
-
-pub root_base_in : (c : BlobCounts) (w : ℕ) → RootLegal c w → is_ext w ≡ false → slot_of w < base_slots_of c
-root_base_in c w h e = ltb-true (slot_of w) (base_slots_of c) (and_left (ltb (slot_of w) (base_slots_of c)) (h.filled.bases (slot_of w)) (rw e at h.ok))
 
 -- limbs that stand for a value and are below p are its words
 exact_words : (v : Value ℕ (List ℕ)) {r : List ℕ} → Limbs 3 (to_ext goldilocks v) r → r ≡ ext_words v
