@@ -1,6 +1,6 @@
 -- What the walk over bytes answers, case by case.
 -- Assumes nothing.
-use Rattle.std.specs.Prelude.{Result}
+use Rattle.std.specs.Prelude.{Result, Ok, Err}
 use mathlib.Core.Bool.{false, ◌||◌}
 use mathlib.Core.List.{List, ◌++◌}
 use mathlib.Core.Path.{◌≡◌, refl, sym, ap, subst, ◌∙◌}
@@ -8,15 +8,18 @@ use Prim.Native.Nat.{ℕ, ◌+◌, ◌≤◌}
 use native.Mathlib.Omega.{arith}
 use lib.ListN.{length, take, drop}
 use lib.Seq.{sets, sets-eq}
-use borrow.Author.Tests.{ltb-false}
+use borrow.Author.Tests.{ltb-false, ne_eqb}
 use Rattle.laws.proofs.Parts.{sets_after}
 use Rattle.laws.proofs.Tests.{or_left, or_right, clash}
 use Rattle.ir.specs.declared.frame.Shape.{Shape}
 use Rattle.ir.specs.declared.refusal.Refusal.{Refusal}
+use Rattle.ir.specs.Refusals.{said_of}
 use Rattle.ir.specs.Shape.{over_shape}
+use Rattle.ir.proofs.RefusalLaws.{refusal_number}
 use Rattle.values.specs.Frame.{Lent}
 use Rattle.blob_rules.specs.Blob.{Blob}
-use Rattle.stored_parts.specs.Form.{Tables}
+use Rattle.walk.specs.Walk.{WalkAnswer}
+use Rattle.stored_parts.specs.Form.{Tables, spread}
 use Rattle.stored_parts.proofs.WordLaws.{words_long}
 use Rattle.byte_words.specs.Words.{whole, words_in}
 use Rattle.byte_walk.specs.Walking.{Frame, Evals, frame_words, eval_words, put_frame, tight, short_frame_rooms, FrameFits, EvalsFit, lent_in, Memory, short_rooms, Packed, Walked, WalkBytes}
@@ -53,6 +56,16 @@ frame_fronts_are : (f rooms : Frame) {rooms' : Frame} → FrameFits f rooms → 
 frame_fronts_are f rooms h e =
     ap (frame_fronts f) e
     ∙ rw (unpacked 8 f.main rooms.main h.main_fits refl, unpacked 8 f.aux rooms.aux h.aux_fits refl, unpacked 8 f.challenges rooms.challenges h.challenges_fit refl, unpacked 8 f.alphas rooms.alphas h.alphas_fit refl)
+
+-- ---- the walk of words
+
+module _ {b : Blob} {s : Shape} {l : Lent} {evals words words' : Evals} {marks marks' slots slots' : List ℕ} {o : Result (Unit {0}) Refusal} (a : WalkAnswer b s l o words.base words'.base words.ext words'.ext marks marks' slots slots') where
+  pub packed_refused : {why : Refusal} → o ≡ Err why → Packed b s l evals words marks slots (Err why) evals words' marks' slots'
+  packed_refused {why} e =
+      record { walked = rw e at a; packed = rw (ne_eqb (said_of why).number 0 (refusal_number why)) }
+
+  pub packed_done : {done : Unit {0}} {base ext : List ℕ} → o ≡ Ok done → base ≡ sets evals.base 0 (spread 8 words'.base) → ext ≡ sets evals.ext 0 (spread 8 words'.ext) → Packed b s l evals words marks slots (Ok done) (record { base = base; ext = ext }) words' marks' slots'
+  packed_done e p q = record { walked = rw e at a; packed = rw (p, q) }
 
 -- ---- frame and evals in rooms
 

@@ -41,7 +41,7 @@ pub trait Constant: Copy {
 }
 
 // Whether two words stand for one element; the equality of u64 is that of the words.
-fn same_value(a: u64, b: u64) -> bool
+pub fn same_value(a: u64, b: u64) -> bool
     ensures { result ≡ eqb (a % p) (b % p) }
 {
     Fp::reduce(a) == Fp::reduce(b)

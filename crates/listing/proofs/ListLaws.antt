@@ -3,16 +3,16 @@
 use mathlib.Core.Bool.{Bool, true, false}
 use mathlib.Core.List.{List, [], ◌∷◌, ◌++◌, append_assoc, append-nil}
 use mathlib.Core.Path.{◌≡◌, refl, sym, ap, ◌∙◌}
-use Prim.Native.Nat.{ℕ, zero, suc, ◌+◌, ◌-◌, ◌*◌, ◌/◌, ◌%◌, ◌^◌, ◌<◌, ◌≤◌}
+use Prim.Native.Nat.{ℕ, zero, suc, max, ◌+◌, ◌-◌, ◌*◌, ◌/◌, ◌%◌, ◌^◌, ◌<◌, ◌≤◌}
 use native.Mathlib.Nat.{mod-eq_of_lt, mul-suc, mul-zero, mul-le-mul_left}
 use native.Mathlib.Numerals.{add-one}
 use native.Mathlib.Omega.{arith}
-use lib.ListN.{length, get_or, take, drop, length-append, length-drop, length-map}
+use lib.ListN.{length, get_or, set, take, drop, length-append, length-drop, length-map}
 use lib.Seq.{sets, paste, take_all, take-suc, drop-drop, length-take-le, sets-eq}
 use borrow.Rule.Slice.PartMut.{put_mid}
 use Rattle.std.specs.Fmt as Fmt
 use Rattle.std.proofs.lemmas.Fmt.{AppendsLastDigit, decimal_from_appends, length-decimal-le}
-use Rattle.std.proofs.lemmas.List.{get_or-drop, drop-take, take-take}
+use Rattle.std.proofs.lemmas.List.{get_or-drop, drop-take, take-take, take-append-drop}
 use Rattle.std.proofs.lemmas.Slice.{put_mid-paste}
 use borrow.Author.Tests.{lt-ltb, le-ltb}
 use Rattle.laws.proofs.Parts.{sets_append}
@@ -74,6 +74,46 @@ pub number_put : {out : List ℕ} {at : ℕ} {new : List ℕ} {r : ℕ} (n : ℕ
 number_put n {text} h e x =
     let short = length-decimal-le 20 n (omega arith) (omega arith) h in
     puts_within (puts_as x (e ∙ decimal_is n h)) (omega (arith, ap length e))
+
+power_some : (i : ℕ) → 1 ≤ 10 ^ i
+power_some zero = omega arith
+power_some (suc i) = omega (arith, power_some i)
+
+-- a number from 10 to the k on, and below ten times that, has k + 1 digits
+digits_long : (j k n : ℕ) → k < j → 10 ^ k ≤ n → n < 10 * 10 ^ k → length (digits j n) ≡ k + 1
+digits_long zero k n h l u = absurd (omega arith)
+digits_long (suc j) zero n h l u = rw (lt-ltb n 10 (omega arith)) refl
+digits_long (suc j) (suc k) n h l u =
+    let more : 10 ≤ n = omega (arith, power_some k) in
+    let e = digits_long j k (n / 10) (omega arith) (omega arith) (omega arith) in
+    rw (le-ltb n 10 more, length-append (digits j (n / 10)) ((48 + n % 10) ∷ [])) (omega (arith, e))
+
+pub decimal_long : (n k : ℕ) → k < 20 → 10 ^ k ≤ max n 1 → max n 1 < 10 * 10 ^ k → k + 1 ≡ length (decimal n)
+unfolding decimal
+decimal_long zero zero h l u = refl
+decimal_long zero (suc k) h l u = absurd (omega (arith, power_some k))
+decimal_long (suc n) k h l u = sym (digits_long 20 k (suc n) h (omega arith) (omega arith))
+
+pub decimal_short : (n : ℕ) → n < 10 → (48 + n) ∷ [] ≡ decimal n
+unfolding decimal
+decimal_short n h = let e : n % 10 ≡ n = mod-eq_of_lt h in rw (lt-ltb n 10 h, e)
+
+-- one byte put at a place
+pub byte_put : (out : List ℕ) (at b : ℕ) → Puts out at 1 (b ∷ []) (set out at b) (at + 1)
+byte_put out at b = record { stands = refl; next = refl; small = omega arith }
+
+-- digits written to their place
+pub digits_put : (out : List ℕ) (at end r : ℕ) (text : List ℕ) {new : List ℕ} → at + length text ≡ end → end ≤ length out → r + length text ≡ end → drop r new ≡ text ++ drop end out → take r new ≡ take r out → Puts out at (length text) text new end
+digits_put out at end r text {new} e h q d t =
+    let same : r ≡ at = omega arith in
+    let last : end ≡ at + length text = omega arith in
+    let front : take at new ≡ take at out = rw same at t in
+    let back : drop at new ≡ text ++ drop (at + length text) out = rw (same, last) at d in
+    record {
+      stands = sym (take-append-drop at new) ∙ rw (front, back) (sym (append_assoc (take at out) text (drop (at + length text) out)) ∙ sym (sets-eq text out at (omega arith)));
+      next = last;
+      small = omega arith;
+    }
 
 -- ---- text
 

@@ -5,7 +5,7 @@ ghost use Rattle.listing.specs.Listing.{decimal, ending, numbers, line, lines, r
 
 use blob_rules::blob::BlobCounts;
 use field::goldilocks::Fp;
-use itoa::Buffer;
+use itoa::write_digits;
 use little_endian::bytes::Word;
 use stored_parts::reading::{bad_framing, counts_in};
 
@@ -84,6 +84,37 @@ impl<'a> Sections<'a> {
     }
 }
 
+fn digit_count(n: u64) -> usize
+    ensures { result ≡ length (decimal n) }
+{
+    n.max(1).ilog10() as usize + 1
+}
+
+// The digits are written where they stay, so that none is copied; most numbers of a blob have one. A put of a number answers the
+// place after it, which stands in no memory while a line's numbers are put.
+fn put_number(n: u64, out: &mut [u8], at: usize) -> usize
+    requires { at + 20 ≤ length out.old }
+    ensures { Puts out.old at 20 (decimal n) out.new result }
+{
+    if n < 10 {
+        out[at] = b'0' + n as u8;
+        return at + 1;
+    }
+    let end = at + digit_count(n);
+    write_digits(n, out, end);
+    end
+}
+
+// A number that `left` more follow: a newline ends the last.
+fn put_ended(n: u64, left: usize, out: &mut [u8], at: usize) -> usize
+    requires { at + 21 ≤ length out.old }
+    ensures { Puts out.old at 21 (decimal n ++ (ending left ∷ [])) out.new result }
+{
+    let end = put_number(n, out, at);
+    out[end] = if left == 0 { b'\n' } else { b' ' };
+    end + 1
+}
+
 // Text that stands in a room, from its start up to a length.
 #[derive(Drop)]
 struct Text<'a> {
@@ -92,7 +123,8 @@ struct Text<'a> {
 }
 
 impl Text<'_> {
-    fn put(&mut self, text: &[u8])
+    // A text of a fixed length is stored without a call.
+    fn put<const N: usize>(&mut self, text: &[u8; N])
         requires { self.old.len + length text.now ≤ length self.old.room.now }
         ensures { Adds (length text.now) text.now self.old self.new }
     {
@@ -101,35 +133,21 @@ impl Text<'_> {
         self.len = end;
     }
 
-    fn put_number(&mut self, n: u64)
-        requires { self.old.len + 20 ≤ length self.old.room.now }
-        ensures { Adds 20 (decimal n) self.old self.new }
-    {
-        self.put(Buffer::new().format(n).as_bytes());
-    }
-
-    // A number that `left` more follow: a newline ends the last.
-    fn put_ended(&mut self, n: u64, left: usize)
-        requires { self.old.len + 21 ≤ length self.old.room.now }
-        ensures { Adds 21 (decimal n ++ (ending left ∷ [])) self.old self.new }
-    {
-        self.put_number(n);
-        self.put(if left == 0 { b"\n" } else { b" " });
-    }
-
     // A table's numbers from one place up to another, as those that end a line.
     fn put_numbers<T: Table>(&mut self, table: &T, from: usize, end: usize)
         requires in_table { (from ≤ end) × (end ≤ length (T.numbers table.now)) }
         requires room { self.old.len + 21 * (end - from) ≤ length self.old.room.now }
         ensures { Adds (21 * (end - from)) (numbers 0 (take (end - from) (drop from (T.numbers table.now)))) self.old self.new }
     {
+        let mut at = self.len;
         for i in from..end {
-            self.put_ended(table.number(i), end - 1 - i);
+            at = put_ended(table.number(i), end - 1 - i, self.room, at);
         }
+        self.len = at;
     }
 
     // A table's lines: in each a name, and then the next n numbers.
-    fn put_lines<T: Table>(&mut self, name: &[u8], n: usize, table: &T)
+    fn put_lines<T: Table, const N: usize>(&mut self, name: &[u8; N], n: usize, table: &T)
         requires some { 0 < n }
         requires room { self.old.len + (length name.now + 21 * n) * (length (T.numbers table.now) / n) ≤ length self.old.room.now }
         ensures { Adds ((length name.now + 21 * n) * (length (T.numbers table.now) / n)) (lines name.now n (length (T.numbers table.now) / n) (T.numbers table.now)) self.old self.new }
@@ -145,7 +163,7 @@ impl Text<'_> {
         ensures { Adds 29 (line refused_name (number ∷ [])) self.old self.new }
     {
         self.put(b"refused ");
-        self.put_ended(number, 0);
+        self.len = put_ended(number, 0, self.room, self.len);
     }
 
     fn put_blob(&mut self, file: &[u8], c: BlobCounts)

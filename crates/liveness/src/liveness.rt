@@ -14,6 +14,14 @@ pub struct Marks<'a> {
     pub is_root: &'a mut [u32],
 }
 
+// The marks, to be read: which nodes are emitted, which reads each last, and which are roots.
+#[derive(Clone, Copy)]
+pub struct MarksRef<'a> {
+    pub used: &'a [u32],
+    pub last_use: &'a [u32],
+    pub is_root: &'a [u32],
+}
+
 impl Marks<'_> {
     // Node i reads node j.
     fn note(&mut self, i: u32, j: usize)

@@ -78,6 +78,15 @@ pub told : {q : Program} {b : Lists} {o o' : Output} {w : Result BlobCounts Refu
     → WordsAnswer q b o w b' o' → WordsAnswer q b o w (record { used = used; last = last; root = root; slot = slot; free = free }) o'
 told b' used last root slot free u l r s f a = rw (u, l, r, s, f) a
 
+-- what is asked of lists, told of lists that are the same one by one
+pub write_told : {c : Counts} {nodes bases exts roots : List ℕ} {count : ℕ} {on ob ox or : List ℕ} {used last root slot free used' last' root' slot' free' : List ℕ} → used ≡ used' → last ≡ last' → root ≡ root' → slot ≡ slot' → free ≡ free'
+    → WriteOk c nodes bases exts roots used' last' root' slot' free' count on ob ox or → WriteOk c nodes bases exts roots used last root slot free count on ob ox or
+write_told u l r s f a = rw (u, l, r, s, f) a
+
+pub exact_told : {n : ℕ} {used last root slot free used' last' root' slot' free' : List ℕ} → used ≡ used' → last ≡ last' → root ≡ root' → slot ≡ slot' → free ≡ free'
+    → Exact n (record { used = used'; last = last'; root = root'; slot = slot'; free = free' }) → Exact n (record { used = used; last = last; root = root; slot = slot; free = free })
+exact_told u l r s f a = rw (u, l, r, s, f) a
+
 -- ---- past the tests
 
 quiet : (p q r t : Bool) → (p || q || r || t) ≡ false → (p ≡ false) × (q ≡ false) × (r ≡ false) × (t ≡ false)

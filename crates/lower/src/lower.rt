@@ -9,7 +9,7 @@ ghost use Rattle.lower_parts.specs.Answer.{lists_of, output_of, LowerAnswer};
 use blob_rules::blob::{BlobCounts, TableRooms};
 use ir::program::{ProgramRef, ill_formed, short_tables, too_many_nodes, too_many_roots};
 use ir::refusal::Refusal;
-use liveness::liveness::{Marks, mark_live};
+use liveness::liveness::{Marks, MarksRef, mark_live};
 use lower_parts::parts::{Lists, counts_of, short_output, write_blob};
 
 // The liveness pass over the lists that it fills.
@@ -44,11 +44,11 @@ fn lower_words<'a>(
 {
     let c = p.counts;
     let mut lists = Lists {
-        used,
-        last_use,
-        is_root,
-        slot_of,
-        free,
+        used: &mut *used,
+        last_use: &mut *last_use,
+        is_root: &mut *is_root,
+        slot_of: &mut *slot_of,
+        free: &mut *free,
     };
     lists.clear(c.nodes);
     let count = mark_lists(p, &mut lists);
@@ -56,7 +56,19 @@ fn lower_words<'a>(
         lists.clear(c.nodes);
         return Err(Refusal::ShortOutput);
     }
-    let place = write_blob(p, count, &mut lists, out);
+    let marks = MarksRef {
+        used: &*used,
+        last_use: &*last_use,
+        is_root: &*is_root,
+    };
+    let place = write_blob(p, count, &marks, &mut *slot_of, &mut *free, out);
+    let mut lists = Lists {
+        used,
+        last_use,
+        is_root,
+        slot_of,
+        free,
+    };
     lists.clear(c.nodes);
     Ok(counts_of(c, place))
 }

@@ -12,7 +12,7 @@ ghost use Rattle.lower_parts.specs.Answer.{lists_of, output_of, lowering, short_
 use blob_rules::blob::{BlobCounts, RES_EXT_BIT, TableRooms};
 use field::goldilocks::Fp;
 use ir::program::{Counts, ProgramRef};
-use liveness::liveness::Marks;
+use liveness::liveness::MarksRef;
 use scan::scan::{Progress, scan_nodes};
 
 // The first n words become 0, and a longer list keeps the others.
@@ -103,22 +103,22 @@ fn write_roots(count: usize, nodes: &[u32], roots: &[u32], slot_of: &[u32], out:
 }
 
 // The nodes by the scan, the roots by their slots, the constants below p.
-pub fn write_blob(p: &ProgramRef, count: usize, lists: &mut Lists, out: &mut TableRooms) -> Progress
-    requires { WriteOk p.now.counts p.now.nodes.now p.now.bases.now p.now.exts.now p.now.roots.now lists.old.used.now lists.old.last_use.now lists.old.is_root.now lists.old.slot_of.now lists.old.free.now count out.old.nodes.now out.old.bases.now out.old.exts.now out.old.roots.now }
+pub fn write_blob<'a>(
+    p: &ProgramRef,
+    count: usize,
+    marks: &MarksRef,
+    slot_of: &'a mut [u32],
+    free: &'a mut [u32],
+    out: &mut TableRooms,
+) -> Progress
+    requires { WriteOk p.now.counts p.now.nodes.now p.now.bases.now p.now.exts.now p.now.roots.now marks.now.used.now marks.now.last_use.now marks.now.is_root.now slot_of.old free.old count out.old.nodes.now out.old.bases.now out.old.exts.now out.old.roots.now }
     ensures blob_written { BlobWritten p.now.counts (lowering (program_of p.now)) (output_of out.old) (output_of out.new) result.count result.nexts }
-    ensures marks_unchanged { (lists.new.used.now ≡ lists.old.used.now) × (lists.new.last_use.now ≡ lists.old.last_use.now) × (lists.new.is_root.now ≡ lists.old.is_root.now) }
-    ensures lists_long { (length lists.new.slot_of.now ≡ p.now.counts.nodes) × (length lists.new.free.now ≡ 2 * p.now.counts.nodes) × (length result.nexts ≡ 2) }
-    ensures same_lists { SameLists lists.new lists.old }
+    ensures lists_long { (length slot_of.new ≡ p.now.counts.nodes) × (length free.new ≡ 2 * p.now.counts.nodes) × (length result.nexts ≡ 2) }
     ensures same_rooms { SameRooms out.new out.old }
 {
     let c = p.counts;
-    let marks = Marks {
-        used: &mut *lists.used,
-        last_use: &mut *lists.last_use,
-        is_root: &mut *lists.is_root,
-    };
-    let place = scan_nodes(p.nodes, &marks, lists.slot_of, lists.free, out.nodes);
-    write_roots(c.roots, p.nodes, p.roots, lists.slot_of, out.roots);
+    let place = scan_nodes(p.nodes, marks, slot_of, free, out.nodes);
+    write_roots(c.roots, p.nodes, p.roots, slot_of, out.roots);
     copy_constants(c.bases, p.bases, out.bases);
     copy_constants(3 * c.exts, p.exts, out.exts);
     place

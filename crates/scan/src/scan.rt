@@ -6,12 +6,12 @@ ghost use Rattle.scan_parts.specs.Scan.{pick};
 
 use blob_rules::blob::RES_EXT_BIT;
 use ir::node::{OP_ADD, OP_NEG};
-use liveness::liveness::Marks;
+use liveness::liveness::MarksRef;
 use scan_parts::pools::Scan;
 use scan_parts::spelling::{Words, put, spell};
 
 // The operands of node i give their slots back, the first before the second.
-fn release(i: usize, nodes: &[u32], marks: &Marks, scan: &mut Scan)
+fn release(i: usize, nodes: &[u32], marks: &MarksRef, scan: &mut Scan)
     requires { (i < 536870912) × ReleaseOk i nodes.now marks.now.last_use.now marks.now.is_root.now scan.old.slot_of.now scan.old.free.now scan.old.tops scan.old.nexts }
     ensures released { Released i nodes.now marks.now.last_use.now marks.now.is_root.now scan.old.slot_of.now scan.old.free.now scan.old.tops scan.old.nexts scan.new.slot_of.now scan.new.free.now scan.new.tops }
     ensures nexts_value { scan.new.nexts ≡ scan.old.nexts }
@@ -44,7 +44,7 @@ fn claim(i: usize, class: u32, w: Words, scan: &mut Scan)
 }
 
 // Node i of the scan: its operands are encoded, then given back, then it takes its slot.
-fn step(i: usize, nodes: &[u32], marks: &Marks, scan: &mut Scan)
+fn step(i: usize, nodes: &[u32], marks: &MarksRef, scan: &mut Scan)
     requires { Ready i nodes.now marks.now.used.now marks.now.last_use.now marks.now.is_root.now scan.old.slot_of.now scan.old.free.now scan.old.tops scan.old.nexts scan.old.out.now scan.old.count }
     ensures advanced { Advanced i nodes.now marks.now.used.now marks.now.last_use.now marks.now.is_root.now scan.old.slot_of.now scan.old.out.now scan.old.count scan.new.slot_of.now scan.new.free.now scan.new.tops scan.new.nexts scan.new.out.now scan.new.count }
     ensures same_lists { SameScan scan.new scan.old }
@@ -52,7 +52,7 @@ fn step(i: usize, nodes: &[u32], marks: &Marks, scan: &mut Scan)
     if marks.used[i] == 0 {
         return;
     }
-    let w = spell(i, nodes, marks.used, scan);
+    let w = spell(i, nodes, marks.used, scan.slots());
     release(i, nodes, marks, scan);
     claim(i, nodes[4 * i + 3], w, scan);
 }
@@ -68,7 +68,7 @@ pub struct Progress {
 // All nodes. The marks say which are emitted, when a slot may be given back, and which never is.
 pub fn scan_nodes<'a>(
     nodes: &[u32],
-    marks: &Marks,
+    marks: &MarksRef,
     slot_of: &'a mut [u32],
     free: &'a mut [u32],
     out: &'a mut [u32],

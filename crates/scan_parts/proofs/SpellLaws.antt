@@ -3,15 +3,21 @@
 use mathlib.Core.Bool.{Bool, true, false, ◌||◌}
 use mathlib.Core.List.{List, [], ◌∷◌, ◌++◌}
 use mathlib.Core.Path.{◌≡◌, refl, sym, ◌∙◌}
-use Prim.Native.Nat.{ℕ, ◌+◌, ◌<◌, ◌≤◌}
+use Prim.Native.Nat.{ℕ, ◌+◌, ◌-◌, ◌*◌, ◌<◌, ◌≤◌}
 use lib.Dec.{eqb, ltb}
-use lib.ListN.{length, take, drop}
+use lib.ListN.{get_or, length, take, drop}
 use Rattle.std.proofs.lemmas.List.{append_assoc, drop-drop}
 use Rattle.std.proofs.lemmas.List.Edits.{sets, sets-eq}
-use borrow.Author.Tests.{eq-eqb, lt-ltb, le-ltb}
+use borrow.Author.Tests.{eq-eqb, ne_eqb, lt-ltb, le-ltb}
 use Rattle.laws.proofs.Cases.{by_test}
 use Rattle.ir.specs.Words.{Node, node_at}
 use Rattle.liveness.specs.Liveness.{has, operands}
+use Rattle.liveness.specs.LiveLists.{listed}
+use Rattle.scan_parts.specs.Scan.{encode}
+
+module _ (nodes emitted last pinned : List ℕ) (slot : ℕ → ℕ) (j : ℕ) where
+  pub encode_held : (get_or emitted j 0 ≡ 0 → ⊥) → encode nodes (listed emitted last pinned) slot j ≡ (node_at nodes j).dim * 536870912 + (slot j - 1)
+  encode_held n = rw (ne_eqb (get_or emitted j 0) 0 n) refl
 
 module _ (nodes : List ℕ) (i : ℕ) where
   abbrev pub w : Node

@@ -2,7 +2,7 @@
 ghost use Rattle.std.specs.Prelude.{◌≡◌, ◌+◌, ◌*◌, get_or, set};
 ghost use Rattle.scan_parts.specs.Pools.{SameScan, TakeOk, Takes, PushOk, GiveOk, Gives};
 
-use liveness::liveness::Marks;
+use liveness::liveness::MarksRef;
 
 // The scan so far: each node's slot plus one, 0 for none; the free slots of base and of extension in turn, and of each of the
 // two how many are free, and how many there are; the words of the nodes written, and how many nodes that is.
@@ -16,8 +16,37 @@ pub struct Scan<'a> {
     pub count: usize,
 }
 
+// The last freed slot of the class, else a new number.
+pub fn take(class: usize, free: &[u32], tops: &mut [usize; 2], nexts: &mut [u32; 2]) -> u32
+    requires { TakeOk class free.now tops.old nexts.old }
+    ensures { Takes class free.now tops.old nexts.old result tops.new nexts.new }
+{
+    let top = tops[class];
+    if top == 0 {
+        let slot = nexts[class];
+        nexts[class] = slot + 1;
+        return slot;
+    }
+    tops[class] = top - 1;
+    free[2 * (top - 1) + class]
+}
+
 impl Scan<'_> {
-    // The last freed slot of the class, else a new number.
+    // Each node's slot plus one, to be read.
+    pub fn slots(&self) -> &[u32]
+        ensures { result.now ≡ self.now.slot_of.now }
+    {
+        &self.slot_of[..]
+    }
+
+    // The free slots, to be read.
+    fn free_slots(&self) -> &[u32]
+        ensures { result.now ≡ self.now.free.now }
+    {
+        &self.free[..]
+    }
+
+    // The same of the scan's own slots.
     pub fn take(&mut self, class: usize) -> u32
         requires { TakeOk class self.old.free.now self.old.tops self.old.nexts }
         ensures takes { Takes class self.old.free.now self.old.tops self.old.nexts result self.new.tops self.new.nexts }
@@ -25,14 +54,11 @@ impl Scan<'_> {
         ensures words_unchanged { (self.new.out.now ≡ self.old.out.now) × (self.new.count ≡ self.old.count) }
         ensures same_lists { SameScan self.new self.old }
     {
-        let top = self.tops[class];
-        if top == 0 {
-            let slot = self.nexts[class];
-            self.nexts[class] = slot + 1;
-            return slot;
-        }
-        self.tops[class] = top - 1;
-        self.free[2 * (top - 1) + class]
+        let (mut tops, mut nexts) = (self.tops, self.nexts);
+        let slot = take(class, self.free_slots(), &mut tops, &mut nexts);
+        self.tops = tops;
+        self.nexts = nexts;
+        slot
     }
 
     // A slot of the class is free.
@@ -51,7 +77,7 @@ impl Scan<'_> {
 
     // At node i, operand j gives its slot back if it has one, is no root and is not read later. A node's dim, 0 or 1, is the
     // class of its slot.
-    pub fn give_back(&mut self, i: u32, j: u32, nodes: &[u32], marks: &Marks)
+    pub fn give_back(&mut self, i: u32, j: u32, nodes: &[u32], marks: &MarksRef)
         requires { GiveOk j nodes.now marks.now.last_use.now marks.now.is_root.now self.old.slot_of.now self.old.free.now self.old.tops self.old.nexts }
         ensures gives { Gives i j nodes.now marks.now.last_use.now marks.now.is_root.now self.old.slot_of.now self.old.free.now self.old.tops self.old.nexts self.new.slot_of.now self.new.free.now self.new.tops }
         ensures nexts_value { self.new.nexts ≡ self.old.nexts }

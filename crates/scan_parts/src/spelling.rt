@@ -5,7 +5,6 @@ ghost use Rattle.scan_parts.specs.Pools.{EncOk, WordsOk, Spelt};
 ghost use Rattle.liveness.specs.LiveLists.{listed};
 ghost use Rattle.scan_parts.specs.Scan.{uniform_kind, encode};
 
-use super::pools::Scan;
 use blob_rules::blob::OPK_STEP;
 use ir::node::{OP_ADD, OP_CONST_EXT, OP_NEG};
 
@@ -29,16 +28,16 @@ fn enc_slot(class: u32, slot: u32) -> u32
 }
 
 // An operand: its slot if it has one, else its place in a uniform table.
-fn enc_operand(j: u32, nodes: &[u32], emitted: &[u32], scan: &Scan) -> u32
-    requires { EncOk j nodes.now emitted.now scan.now.slot_of.now }
-    ensures { result ≡ encode nodes.now (listed emitted.now [] []) (λ k. get_or scan.now.slot_of.now k 0) j }
+fn enc_operand(j: u32, nodes: &[u32], emitted: &[u32], slot_of: &[u32]) -> u32
+    requires { EncOk j nodes.now emitted.now slot_of.now }
+    ensures { result ≡ encode nodes.now (listed emitted.now [] []) (λ k. get_or slot_of.now k 0) j }
 {
     let at = j as usize;
     let first = 4 * at;
     if emitted[at] == 0 {
         return enc_uniform(nodes[first], nodes[first + 1]);
     }
-    enc_slot(nodes[first + 3], scan.slot_of[at])
+    enc_slot(nodes[first + 3], slot_of[at])
 }
 
 // The words of a node but its result.
@@ -50,9 +49,9 @@ pub struct Words {
 }
 
 // Leaves keep their words; operands are encoded by what they have now.
-pub fn spell(i: usize, nodes: &[u32], emitted: &[u32], scan: &Scan) -> Words
-    requires { WordsOk i nodes.now emitted.now scan.now.slot_of.now }
-    ensures { Spelt i nodes.now emitted.now scan.now.slot_of.now result.op result.a result.b }
+pub fn spell(i: usize, nodes: &[u32], emitted: &[u32], slot_of: &[u32]) -> Words
+    requires { WordsOk i nodes.now emitted.now slot_of.now }
+    ensures { Spelt i nodes.now emitted.now slot_of.now result.op result.a result.b }
 {
     let first = 4 * i;
     let op = nodes[first];
@@ -61,9 +60,9 @@ pub fn spell(i: usize, nodes: &[u32], emitted: &[u32], scan: &Scan) -> Words
     if op < OP_ADD {
         return Words { op, a: x, b: y };
     }
-    let a = enc_operand(x, nodes, emitted, scan);
+    let a = enc_operand(x, nodes, emitted, slot_of);
     if op < OP_NEG {
-        let b = enc_operand(y, nodes, emitted, scan);
+        let b = enc_operand(y, nodes, emitted, slot_of);
         return Words { op, a, b };
     }
     Words { op, a, b: 0 }

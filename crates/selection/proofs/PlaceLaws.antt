@@ -46,6 +46,10 @@ module _ {T : Type 0} (t : T → Bool) (xs : List T) where
   pub counted : count_by t xs ≡ length (places t xs)
   counted = ap (count_by t) (sym (take_all (length xs) xs (omega arith))) ∙ counted_to (length xs) (omega arith)
 
+  -- counted up to the end of the list, all are counted
+  pub counted_all : {n i : ℕ} → n ≡ count_by t (take i xs) → i ≡ length xs → n ≡ count_by t xs
+  counted_all {n} {i} e h = e ∙ ap (count_by t) (take_all i xs (omega arith))
+
   module _ {W : Type 0} (w : ℕ → W) (old : List W) where
     -- the places below i, written as words at the front of the room
     pub record Put (i at : ℕ) (new : List W) : Type 0 where

@@ -4,7 +4,8 @@ ghost use Rattle.selection.specs.Places.{places, Listed};
 
 use ir::refusal::Refusal;
 
-// Ascending, from the start of the room: how many, or 10 where the room is shorter, and then nothing is written.
+// Ascending, from the start of the room: how many, or 10 where the room is shorter, and then nothing is written. What an item
+// adds to the count is added without a branch, which would be wrong half of the time where items pass at random.
 pub fn list_places<T: Copy, W: Copy, F: Fn(T) -> bool, G: Fn(usize) -> W>(
     items: &[T],
     test: F,
@@ -18,7 +19,10 @@ pub fn list_places<T: Copy, W: Copy, F: Fn(T) -> bool, G: Fn(usize) -> W>(
     requires wrote { (i : ℕ) (v : W) → G.post word i v → v ≡ says.1 i }
     ensures { Listed (map says.1 (places says.0 items.now)) out.old out.new result }
 {
-    let count = items.iter().filter(|item| test(**item)).count();
+    let mut count: usize = 0;
+    for place in 0..items.len() {
+        count += usize::from(test(items[place]));
+    }
     if out.len() < count {
         return Err(Refusal::ShortOutput);
     }

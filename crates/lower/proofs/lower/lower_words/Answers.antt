@@ -1,4 +1,5 @@
-use Rattle.lower.proofs.EndLaws.{Exact, made_few, exact_live, live_ok, write_ok, short_is, refused, done, told}
+use Rattle.lower.proofs.EndLaws.{Exact, made_few, exact_live, live_ok, write_ok, short_is, refused, done, told, write_told, exact_told}
+use Rattle.lower_parts.specs.Inner.{WriteOk}
 use Rattle.lower_parts.specs.Answer.{lists_of, output_of}
 use mathlib.Core.Path.{refl, sym, ◌∙◌}
 use borrow.Author.Rules.{rules}
@@ -19,7 +20,11 @@ returns-then-short_output-clause-answer c =
 pub write_blob-place-requires : goal.write_blob-place-requires
 write_blob-place-requires c =
     let m = c.mark_lists-count.ensures in
-    rw (m.slots_unchanged.0, m.slots_unchanged.1) (write_ok _ _ (output_of c.args.out.now) c.requires _ c.clear.ensures.emptied _ _ _ _ m.alive (sym c.short_output.ensures ∙ c.if-short_output.false))
+    let l = c.mark_lists-count.new.lists in
+    let p = c.args.p.now in
+    let out = c.args.out.now in
+    let k : WriteOk p.counts p.nodes.now p.bases.now p.exts.now p.roots.now l.used.now l.last_use.now l.is_root.now l.slot_of.now l.free.now c.mark_lists-count.result out.nodes.now out.bases.now out.exts.now out.roots.now = rw (m.slots_unchanged.0, m.slots_unchanged.1) (write_ok _ _ (output_of out) c.requires _ c.clear.ensures.emptied _ _ _ _ m.alive (sym c.short_output.ensures ∙ c.if-short_output.false)) in
+    write_told (search rules) (search rules) (search rules) (search rules) (search rules) k
 
 pub counts_of-requires : goal.counts_of-requires
 counts_of-requires c =
@@ -35,5 +40,7 @@ returns-clause-answer c =
     let m = c.mark_lists-count.ensures in
     let w = c.write_blob-place.ensures in
     let x = exact_live _ _ o c.requires _ e _ _ _ _ m.alive in
-    let y : Exact c.args.p.now.counts.nodes (lists_of c.write_blob-place.new.lists) = record { used_long = rw w.marks_unchanged.0 x.used_long; last_long = rw w.marks_unchanged.1 x.last_long; root_long = rw w.marks_unchanged.2 x.root_long; slot_long = w.lists_long.0; free_long = w.lists_long.1 } in
-    told (lists_of c.clear-2.new.self) _ _ _ _ _ (search rules) (search rules) (search rules) (search rules) (search rules) (done _ _ o c.requires _ e _ _ _ _ m.alive _ _ _ _ _ _ (sym (short_is _ _ o c.requires _ e _ _ _ _ m.alive) ∙ sym c.short_output.ensures ∙ c.if-short_output.false) w.blob_written c.clear-2.ensures.emptied y c.counts_of.ensures)
+    let l = c.mark_lists-count.new.lists in
+    let b = c.write_blob-place.new in
+    let z : Exact c.args.p.now.counts.nodes (record { used = l.used.now; last = l.last_use.now; root = l.is_root.now; slot = b.slot_of; free = b.free }) = record { used_long = x.used_long; last_long = x.last_long; root_long = x.root_long; slot_long = w.lists_long.0; free_long = w.lists_long.1 } in
+    told (lists_of c.clear-2.new.self) _ _ _ _ _ (search rules) (search rules) (search rules) (search rules) (search rules) (done _ _ o c.requires _ e _ _ _ _ m.alive _ _ _ _ _ _ (sym (short_is _ _ o c.requires _ e _ _ _ _ m.alive) ∙ sym c.short_output.ensures ∙ c.if-short_output.false) w.blob_written c.clear-2.ensures.emptied (exact_told (search rules) (search rules) (search rules) (search rules) (search rules) z) c.counts_of.ensures)
